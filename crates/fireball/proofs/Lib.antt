@@ -1,0 +1,5 @@
+pub mod Scope
+pub mod Determinism
+pub mod Harmony
+pub mod Agreement
+pub mod Examples

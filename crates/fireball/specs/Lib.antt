@@ -1,0 +1,3 @@
+pub mod Term
+pub mod Calculus
+pub mod Stepping
