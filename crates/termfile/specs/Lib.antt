@@ -1,0 +1,6 @@
+pub mod Code
+pub mod Meaning
+pub mod Nodes
+pub mod File
+pub mod Canonical
+pub mod Answer
