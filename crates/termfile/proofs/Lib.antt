@@ -5,3 +5,9 @@ pub mod Bytes
 pub mod Acceptance
 pub mod Writing
 pub mod Theorems
+pub mod Frame
+pub mod Forests
+pub mod Sizes
+pub mod Order
+pub mod Visibility
+pub mod Refusals

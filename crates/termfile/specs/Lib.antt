@@ -3,4 +3,5 @@ pub mod Meaning
 pub mod Nodes
 pub mod File
 pub mod Canonical
+pub mod Passes
 pub mod Answer

@@ -1,4 +1,20 @@
 // The term file: `check` reads a byte string and says whether it is a term file.
+mod binders;
+mod layout;
+mod scope;
+mod shape;
+mod tags;
+
+ghost use mathlib.Core.Path.{_≡_};
+ghost use Rattle.termfile.specs.Answer.{answer, told};
+ghost use Rattle.termfile.specs.File.{freeNames, counts};
+ghost use Rattle.termfile.specs.Passes.{Framed};
+use binders::in_order;
+use layout::word_at;
+use scope::in_scope;
+use shape::is_term;
+use tags::count_tag;
+use tags::tags_known;
 
 // Why a byte string is not a term file, in the order in which the tests are made.
 pub enum Refusal {
@@ -20,7 +36,68 @@ pub struct Counts {
     pub applications: usize,
 }
 
+// What `check` answers.
 pub enum Checked {
     Accepted(Counts),
     Refused(Refusal),
+}
+
+// The most free names, and the most nodes, that a term file has.
+const MAX_FREE: usize = 16384;
+
+const MAX_NODES: usize = 16384;
+
+// Whether a byte string is a term file: its counts, or the first of the seven refusals that it
+// meets. Each test is made over the whole file before the next, in time linear in the file; nothing
+// is written but two arrays of its own.
+pub fn check(file: &[u8]) -> Checked
+    ensures { λ r. ⌜ told r ≡ answer (now (file .entry)) ⌝ }
+{
+    if file.len() < 4 {
+        return Checked::Refused(Refusal::Short);
+    }
+    let f = word_at(file, 0);
+    let n = word_at(file, 2);
+    if f > MAX_FREE {
+        return Checked::Refused(Refusal::Limits);
+    }
+    if n < 1 {
+        return Checked::Refused(Refusal::Limits);
+    }
+    if n > MAX_NODES {
+        return Checked::Refused(Refusal::Limits);
+    }
+    if file.len() != 4 + 3 * n {
+        return Checked::Refused(Refusal::Length);
+    }
+    if !tags_known(file, n) {
+        return Checked::Refused(Refusal::Tag);
+    }
+    let mut sizes = [0u16; 16384];
+    if !is_term(file, n, &mut sizes) {
+        return Checked::Refused(Refusal::Shape);
+    }
+    if !in_order(file, n, f) {
+        return Checked::Refused(Refusal::Binder);
+    }
+    let mut ends = [0u16; 16384];
+    if !in_scope(file, n, f, &sizes, &mut ends) {
+        return Checked::Refused(Refusal::Variable);
+    }
+    Checked::Accepted(counted(file, n, f))
+}
+
+// The counts of a file with f free names and n nodes.
+fn counted(file: &[u8], n: usize, f: usize) -> Counts
+    requires { ⌜ Framed (now file) n ⌝ }
+    requires { ⌜ f ≡ freeNames (now file) ⌝ }
+    ensures { λ r. ⌜ r ≡ counts (now (file .entry)) ⌝ }
+{
+    Counts {
+        free: f,
+        nodes: n,
+        abstractions: count_tag(file, n, 1),
+        variables: count_tag(file, n, 0),
+        applications: count_tag(file, n, 2),
+    }
 }

@@ -1,0 +1,116 @@
+-- Where a file's tags, arguments and nodes stand in its bytes, and one step of a pass over them.
+-- Assumes nothing.
+use Prim.Native.Nat.{ℕ, zero, suc, _+_, _*_, _≤_, _<_}
+use mathlib.Core.Path.{_≡_, refl, sym, ap, ap₂, _∙_}
+use mathlib.Core.Bool.{false}
+use mathlib.Core.List.{List, [], _∷_}
+use native.Mathlib.Omega.{arith}
+use native.Mathlib.Numerals.{add-one}
+use lib.ListN.{length, getD, take, drop, length-drop, drop-of-length-le}
+use lib.Seq.{drop-cons, length-take-le, getD-take, getD-drop}
+use borrow.Author.Tests.{le-leb, lt-leb, eq-eqb, ne-eqb}
+use Rattle.termfile.specs.Nodes.{Node}
+use Rattle.termfile.specs.File.{word, words, pairs, tags, arguments, nodes, nodeCount, known, count}
+use Rattle.termfile.specs.Passes.{Framed}
+
+length-words : (l : List ℕ) (n : ℕ) → length l ≡ 2 * n → length (words l) ≡ n
+length-words [] n h = omega arith
+length-words (a ∷ []) n h = omega arith
+length-words (a ∷ b ∷ l) zero h = omega arith
+length-words (a ∷ b ∷ l) (suc n) h = ap suc (length-words l n (omega arith))
+
+-- the number i of a list of bytes stands at the byte j = 2 i
+getD-words : (l : List ℕ) (i j : ℕ) → j ≡ 2 * i → suc j < length l → getD (words l) i 0 ≡ word (getD l j 0) (getD l (suc j) 0)
+getD-words [] i j e h = omega arith
+getD-words (a ∷ []) i j e h = omega arith
+getD-words (a ∷ b ∷ l) zero zero e h = refl
+getD-words (a ∷ b ∷ l) zero (suc j) e h = omega arith
+getD-words (a ∷ b ∷ l) (suc i) zero e h = omega arith
+getD-words (a ∷ b ∷ l) (suc i) (suc zero) e h = omega arith
+getD-words (a ∷ b ∷ l) (suc i) (suc (suc j)) e h = getD-words l i j (omega arith) (omega arith)
+
+length-pairs : (ts ms : List ℕ) → length ts ≡ length ms → length (pairs ts ms) ≡ length ts
+length-pairs [] ms h = refl
+length-pairs (t ∷ ts) [] h = omega arith
+length-pairs (t ∷ ts) (m ∷ ms) h = ap suc (length-pairs ts ms (omega arith))
+
+getD-pairs : (ts ms : List ℕ) (i : ℕ) (d : Node) → i < length ts → length ts ≡ length ms → getD (pairs ts ms) i d ≡ record { tag = getD ts i 0; argument = getD ms i 0 }
+getD-pairs [] ms i d h e = absurd (omega arith)
+getD-pairs (t ∷ ts) [] i d h e = absurd (omega arith)
+getD-pairs (t ∷ ts) (m ∷ ms) zero d h e = refl
+getD-pairs (t ∷ ts) (m ∷ ms) (suc i) d h e = getD-pairs ts ms i d (omega arith) (omega arith)
+
+module _ {s : List ℕ} {n : ℕ} (framed : Framed s n) where
+  tags-within : nodeCount s ≤ length (drop 4 s)
+  tags-within = simp length-drop (omega (arith, framed .count, framed .long))
+
+  arguments-within : 2 * nodeCount s ≤ length (drop (4 + nodeCount s) s)
+  arguments-within = simp length-drop (omega (arith, framed .count, framed .long))
+
+  pub length-tags : length (tags s) ≡ n
+  length-tags = length-take-le (nodeCount s) (drop 4 s) tags-within ∙ sym (framed .count)
+
+  length-argument-bytes : length (take (2 * nodeCount s) (drop (4 + nodeCount s) s)) ≡ 2 * nodeCount s
+  length-argument-bytes = length-take-le (2 * nodeCount s) (drop (4 + nodeCount s) s) arguments-within
+
+  pub length-arguments : length (arguments s) ≡ n
+  length-arguments = length-words (take (2 * nodeCount s) (drop (4 + nodeCount s) s)) (nodeCount s) length-argument-bytes ∙ sym (framed .count)
+
+  pub length-nodes : length (nodes s) ≡ n
+  length-nodes = length-pairs (tags s) (arguments s) (length-tags ∙ sym length-arguments) ∙ length-tags
+
+  pub tag-at : (i : ℕ) → i < n → getD (tags s) i 0 ≡ getD s (4 + i) 0
+  tag-at i h = getD-take (nodeCount s) (drop 4 s) i 0 (omega (arith, framed .count)) ∙ getD-drop 4 s i 0
+
+  byte-at : (j : ℕ) → j < 2 * n → getD (take (2 * nodeCount s) (drop (4 + nodeCount s) s)) j 0 ≡ getD s (4 + nodeCount s + j) 0
+  byte-at j h = getD-take (2 * nodeCount s) (drop (4 + nodeCount s) s) j 0 (omega (arith, framed .count)) ∙ getD-drop (4 + nodeCount s) s j 0
+
+  pub argument-at : (i : ℕ) → i < n → getD (arguments s) i 0 ≡ word (getD s (4 + n + 2 * i) 0) (getD s (4 + n + 2 * i + 1) 0)
+  argument-at i h =
+      getD-words (take (2 * nodeCount s) (drop (4 + nodeCount s) s)) i (2 * i) refl (omega (arith, length-argument-bytes, framed .count))
+      ∙ ap₂ word (byte-at (2 * i) (omega arith) ∙ ap (λ (k : ℕ). getD s k 0) low) (byte-at (suc (2 * i)) (omega arith) ∙ ap (λ (k : ℕ). getD s k 0) high)
+    where
+      low : 4 + nodeCount s + 2 * i ≡ 4 + n + 2 * i
+      low = omega (arith, framed .count)
+
+      high : 4 + nodeCount s + suc (2 * i) ≡ 4 + n + 2 * i + 1
+      high = omega (arith, framed .count)
+
+  -- the tags from i on, and the nodes from i on
+  pub tags-step : (i : ℕ) → i < n → drop i (tags s) ≡ getD (tags s) i 0 ∷ drop (suc i) (tags s)
+  tags-step i h = drop-cons (tags s) i 0 (omega (arith, length-tags))
+
+  pub nodes-step : (i : ℕ) → i < n → drop i (nodes s) ≡ record { tag = getD (tags s) i 0; argument = getD (arguments s) i 0 } ∷ drop (suc i) (nodes s)
+  nodes-step i h =
+      drop-cons (nodes s) i none (omega (arith, length-nodes))
+      ∙ ap (λ (x : Node). x ∷ drop (suc i) (nodes s)) (getD-pairs (tags s) (arguments s) i none (omega (arith, length-tags)) (length-tags ∙ sym length-arguments))
+    where
+      none : Node
+      none = record { tag = 0; argument = 0 }
+
+  -- the same, as a loop has it that has read the tag t and the argument m of node i
+  pub nodes-next : (i : ℕ) → i < n → (t m : ℕ) → t ≡ getD (tags s) i 0 → m ≡ getD (arguments s) i 0 → drop i (nodes s) ≡ record { tag = t; argument = m } ∷ drop (i + 1) (nodes s)
+  nodes-next i h t m a b = nodes-step i h ∙ cc (add-one i)
+
+  pub nodes-end : (i : ℕ) → n ≤ i → drop i (nodes s) ≡ []
+  nodes-end i h = let past : length (nodes s) ≤ i = omega (arith, length-nodes) in drop-of-length-le (nodes s) past
+
+  -- a pass over the tags that asks whether each is known
+  module _ (i : ℕ) (left : i < n) (t : ℕ) (tag : t ≡ getD (tags s) i 0) where
+    tags-next : drop i (tags s) ≡ t ∷ drop (i + 1) (tags s)
+    tags-next = tags-step i left ∙ cc (add-one i)
+
+    pub known-step : t ≤ 2 → known (drop i (tags s)) ≡ known (drop (i + 1) (tags s))
+    known-step h = rw (tags-next, le-leb t 2 h)
+
+    pub known-broken : 2 < t → known (drop i (tags s)) ≡ false
+    known-broken h = rw (tags-next, lt-leb t 2 h)
+
+    pub count-step : (k : ℕ) → t ≡ k → count k (drop i (tags s)) ≡ 1 + count k (drop (i + 1) (tags s))
+    count-step k h = rw (tags-next, eq-eqb t k h)
+
+    pub count-other : (k : ℕ) → (t ≡ k → ⊥) → count k (drop i (tags s)) ≡ count k (drop (i + 1) (tags s))
+    count-other k h = ap (count k) tags-next ∙ rw (ne-eqb t k h) (omega arith)
+
+  pub tags-end : (i : ℕ) → n ≤ i → drop i (tags s) ≡ []
+  tags-end i h = let past : length (tags s) ≤ i = omega (arith, length-tags) in drop-of-length-le (tags s) past

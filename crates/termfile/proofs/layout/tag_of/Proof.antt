@@ -1,0 +1,19 @@
+-- `layout::tag_of` meets its contract.
+-- Assumes nothing.
+use mathlib.Core.Path.{sym}
+use Rattle.termfile.proofs.Frame.{tag-at}
+use native.Mathlib.Omega.{arith}
+use Rattle.termfile.proofs.layout.tag_of.Statement.{statement}
+use Rattle.termfile.proofs.layout.tag_of.Tie as tie
+
+add-result : tie.Need-add-result
+add-result c = omega arith
+
+shared-slice-read-result : tie.Need-shared-slice-read-result
+shared-slice-read-result c = omega arith
+
+returns : tie.Need-returns
+returns c = sym (tag-at (c .before .pre .0) (c .before .args .i) (c .before .pre .1))
+
+pub tag-of-spec : {M : Type 1} → statement M
+tag-of-spec = tie.close (tie.spec add-result shared-slice-read-result returns)
