@@ -1,11 +1,11 @@
 -- The step function finds a step exactly where the relation has one, and the same.
 -- Assumes nothing.
 use Prim.Native.Nat.{ℕ, zero, suc}
-use mathlib.Core.Path.{_≡_, refl, sym, ap, subst, _∙_}
+use mathlib.Core.Path.{_≡_, refl, sym, subst, _∙_}
 use mathlib.Core.Bool.{Bool, true, false, _&&_, _||_, false≢true}
 use mathlib.Core.Logic.{_↔_}
 use mathlib.Core.Option.{Option, none, some, Option·none-ne-some}
-use Rattle.fireball.specs.Term.{Term, free, bound, lam, app, put}
+use Rattle.fireball.specs.Term.{Term, free, bound, lam, app}
 use Rattle.fireball.specs.Calculus.{Inert, Fireball, Step, Reaches, variable, applied, abstraction, inert, top, right, left, done, more}
 use Rattle.fireball.proofs.Determinism.{fireball-no-step}
 use Rattle.fireball.specs.Stepping.{isAbstraction, isInert, isFireball, fire, first, inside, provided, next, follow, after}

@@ -5,8 +5,8 @@ use Prim.Native.Nat.{ℕ, zero, suc}
 use mathlib.Core.Path.{_≡_, refl}
 use mathlib.Core.Bool.{true}
 use mathlib.Core.Option.{some}
-use Rattle.fireball.specs.Term.{Term, free, bound, lam, app, put, size}
-use Rattle.fireball.specs.Calculus.{Inert, Fireball, Step, Reaches, variable, applied, inert, top, right, done, more}
+use Rattle.fireball.specs.Term.{Term, free, bound, lam, app, size}
+use Rattle.fireball.specs.Calculus.{Inert, Reaches, variable, applied, inert, top, right, done, more}
 use Rattle.fireball.specs.Stepping.{isFireball, next, after}
 use Rattle.fireball.proofs.Determinism.{reaches-snoc}
 

@@ -1,8 +1,8 @@
 -- 01, The calculus: "None is possible exactly when the term is a fireball", for terms with no loose index.
 -- Assumes nothing.
 use mathlib.Core.Logic.{_⊎_, inl, inr, _↔_}
-use Rattle.fireball.specs.Term.{Term, free, bound, lam, app, put, Whole}
-use Rattle.fireball.specs.Calculus.{Inert, Fireball, Step, variable, applied, abstraction, inert, top, right, left}
+use Rattle.fireball.specs.Term.{Term, free, bound, lam, app, Whole}
+use Rattle.fireball.specs.Calculus.{Fireball, Step, variable, applied, abstraction, inert, top, right, left}
 use Rattle.fireball.proofs.Determinism.{fireball-no-step}
 use native.Mathlib.Omega.{arith}
 

@@ -7,12 +7,13 @@ use mathlib.Core.List.{List, []}
 use mathlib.Core.Option.{Option, none, some, Option·some-ne-none}
 use native.Mathlib.Omega.{arith}
 use lib.ListN.{length}
-use borrow.Author.Tests.{leb-true, eqb-true, le-leb, eq-eqb}
+use borrow.Author.Tests.{leb-true, eqb-true}
 use Rattle.termfile.specs.Code.{Code, weigh, only, size, numbered, scoped}
 use Rattle.termfile.specs.Nodes.{write}
 use Rattle.termfile.specs.File.{maxFree, maxNodes, freeNames, nodeCount, tags, nodes, codeOf, known, holds, unless, longEnough, inLimits, exactLength, tagsKnown, oneTerm, bindersInPlace, variablesInScope, refusal, count}
 use Rattle.termfile.proofs.Reading.{read-is, length-write, count-write}
 use Rattle.termfile.proofs.Bytes.{tags-nodes, length-nodes}
+use Rattle.termfile.proofs.Refusals.{not-refused, long-enough, in-limits, exact-length}
 
 -- what the tests say of a file that passes them all
 pub record Accepted (s : List ℕ) : Type 0 where
@@ -66,19 +67,15 @@ accepted s e =
 module _ {s : List ℕ} (a : Accepted s) where
   -- a file that passes them is not refused
   pub accepted-back : refusal s ≡ none
-  unfolding refusal
   accepted-back =
-      rw (
-        le-leb 4 (length s) (a .long),
-        le-leb (freeNames s) maxFree (a .free-limit),
-        le-leb 1 (nodeCount s) (a .nodes-pos),
-        le-leb (nodeCount s) maxNodes (a .nodes-limit),
-        eq-eqb (length s) _ (a .exact),
-        a .known-tags,
-        a .is-code,
-        a .in-order,
-        a .in-scope,
-      )
+      not-refused s
+      (long-enough s (a .long))
+      (in-limits s (a .free-limit) (a .nodes-pos) (a .nodes-limit))
+      (exact-length s (a .exact))
+      (a .known-tags)
+      (ap (holds (λ c. true)) (a .is-code))
+      (ap (holds (numbered (freeNames s))) (a .is-code) ∙ a .in-order)
+      (ap (holds (scoped (freeNames s) [])) (a .is-code) ∙ a .in-scope)
 
   -- an accepted file's nodes are the writing of its code; so they are as many, of each tag, as the code has
   pub nodes-code : nodes s ≡ write (a .code)

@@ -69,7 +69,7 @@ header (a ∷ b ∷ c ∷ []) h = absurd (omega arith)
 header (a ∷ b ∷ c ∷ d ∷ s) h = refl
 
 -- the bytes behind the tags
-abbrev behind : List ℕ → List ℕ
+abbrev pub behind : List ℕ → List ℕ
 behind s = drop (4 + nodeCount s) s
 
 tags-behind : (s : List ℕ) → tags s ++ behind s ≡ drop 4 s
@@ -79,13 +79,13 @@ module _ (s : List ℕ) (exact : length s ≡ 4 + 3 * nodeCount s) where
   pub length-tags : length (tags s) ≡ nodeCount s
   length-tags = simp (length-take, length-drop) (omega arith)
 
-  length-behind : length (behind s) ≡ 2 * nodeCount s
+  pub length-behind : length (behind s) ≡ 2 * nodeCount s
   length-behind = simp length-drop (omega arith)
 
-  arguments-behind : arguments s ≡ words (behind s)
+  pub arguments-behind : arguments s ≡ words (behind s)
   arguments-behind = ap words (take-all (2 * nodeCount s) (behind s) (omega (arith, length-behind)))
 
-  length-arguments : length (arguments s) ≡ nodeCount s
+  pub length-arguments : length (arguments s) ≡ nodeCount s
   length-arguments = ap length arguments-behind ∙ length-words (behind s) (nodeCount s) length-behind
 
   pub tags-nodes : map (λ n. n .tag) (nodes s) ≡ tags s

@@ -6,18 +6,14 @@ use mathlib.Core.Bool.{false}
 use mathlib.Core.List.{List, [], _∷_}
 use native.Mathlib.Omega.{arith}
 use native.Mathlib.Numerals.{add-one}
-use lib.ListN.{length, getD, take, drop, length-drop, drop-of-length-le}
-use lib.Seq.{drop-cons, length-take-le, getD-take, getD-drop}
+use lib.ListN.{length, getD, drop, drop-of-length-le}
+use lib.Seq.{drop-cons, getD-take, getD-drop}
 use borrow.Author.Tests.{le-leb, lt-leb, eq-eqb, ne-eqb}
 use Rattle.termfile.specs.Nodes.{Node}
 use Rattle.termfile.specs.File.{word, words, pairs, tags, arguments, nodes, nodeCount, known, count}
 use Rattle.termfile.specs.Passes.{Framed}
-
-length-words : (l : List ℕ) (n : ℕ) → length l ≡ 2 * n → length (words l) ≡ n
-length-words [] n h = omega arith
-length-words (a ∷ []) n h = omega arith
-length-words (a ∷ b ∷ l) zero h = omega arith
-length-words (a ∷ b ∷ l) (suc n) h = ap suc (length-words l n (omega arith))
+use Rattle.termfile.proofs.Bytes.{behind}
+use Rattle.termfile.proofs.Bytes as bytes
 
 -- the number i of a list of bytes stands at the byte j = 2 i
 getD-words : (l : List ℕ) (i j : ℕ) → j ≡ 2 * i → suc j < length l → getD (words l) i 0 ≡ word (getD l j 0) (getD l (suc j) 0)
@@ -29,11 +25,6 @@ getD-words (a ∷ b ∷ l) (suc i) zero e h = omega arith
 getD-words (a ∷ b ∷ l) (suc i) (suc zero) e h = omega arith
 getD-words (a ∷ b ∷ l) (suc i) (suc (suc j)) e h = getD-words l i j (omega arith) (omega arith)
 
-length-pairs : (ts ms : List ℕ) → length ts ≡ length ms → length (pairs ts ms) ≡ length ts
-length-pairs [] ms h = refl
-length-pairs (t ∷ ts) [] h = omega arith
-length-pairs (t ∷ ts) (m ∷ ms) h = ap suc (length-pairs ts ms (omega arith))
-
 getD-pairs : (ts ms : List ℕ) (i : ℕ) (d : Node) → i < length ts → length ts ≡ length ms → getD (pairs ts ms) i d ≡ record { tag = getD ts i 0; argument = getD ms i 0 }
 getD-pairs [] ms i d h e = absurd (omega arith)
 getD-pairs (t ∷ ts) [] i d h e = absurd (omega arith)
@@ -41,35 +32,31 @@ getD-pairs (t ∷ ts) (m ∷ ms) zero d h e = refl
 getD-pairs (t ∷ ts) (m ∷ ms) (suc i) d h e = getD-pairs ts ms i d (omega arith) (omega arith)
 
 module _ {s : List ℕ} {n : ℕ} (framed : Framed s n) where
-  tags-within : nodeCount s ≤ length (drop 4 s)
-  tags-within = simp length-drop (omega (arith, framed .count, framed .long))
+  -- the length test, as the file's own count has it
+  exact : length s ≡ 4 + 3 * nodeCount s
+  exact = omega (arith, framed .count, framed .long)
 
-  arguments-within : 2 * nodeCount s ≤ length (drop (4 + nodeCount s) s)
-  arguments-within = simp length-drop (omega (arith, framed .count, framed .long))
+  length-tags : length (tags s) ≡ n
+  length-tags = bytes.length-tags s exact ∙ sym (framed .count)
 
-  pub length-tags : length (tags s) ≡ n
-  length-tags = length-take-le (nodeCount s) (drop 4 s) tags-within ∙ sym (framed .count)
+  length-arguments : length (arguments s) ≡ n
+  length-arguments = bytes.length-arguments s exact ∙ sym (framed .count)
 
-  length-argument-bytes : length (take (2 * nodeCount s) (drop (4 + nodeCount s) s)) ≡ 2 * nodeCount s
-  length-argument-bytes = length-take-le (2 * nodeCount s) (drop (4 + nodeCount s) s) arguments-within
-
-  pub length-arguments : length (arguments s) ≡ n
-  length-arguments = length-words (take (2 * nodeCount s) (drop (4 + nodeCount s) s)) (nodeCount s) length-argument-bytes ∙ sym (framed .count)
-
-  pub length-nodes : length (nodes s) ≡ n
-  length-nodes = length-pairs (tags s) (arguments s) (length-tags ∙ sym length-arguments) ∙ length-tags
+  length-nodes : length (nodes s) ≡ n
+  length-nodes = bytes.length-nodes s exact ∙ sym (framed .count)
 
   pub tag-at : (i : ℕ) → i < n → getD (tags s) i 0 ≡ getD s (4 + i) 0
   tag-at i h = getD-take (nodeCount s) (drop 4 s) i 0 (omega (arith, framed .count)) ∙ getD-drop 4 s i 0
 
-  byte-at : (j : ℕ) → j < 2 * n → getD (take (2 * nodeCount s) (drop (4 + nodeCount s) s)) j 0 ≡ getD s (4 + nodeCount s + j) 0
-  byte-at j h = getD-take (2 * nodeCount s) (drop (4 + nodeCount s) s) j 0 (omega (arith, framed .count)) ∙ getD-drop (4 + nodeCount s) s j 0
-
   pub argument-at : (i : ℕ) → i < n → getD (arguments s) i 0 ≡ word (getD s (4 + n + 2 * i) 0) (getD s (4 + n + 2 * i + 1) 0)
   argument-at i h =
-      getD-words (take (2 * nodeCount s) (drop (4 + nodeCount s) s)) i (2 * i) refl (omega (arith, length-argument-bytes, framed .count))
-      ∙ ap₂ word (byte-at (2 * i) (omega arith) ∙ ap (λ (k : ℕ). getD s k 0) low) (byte-at (suc (2 * i)) (omega arith) ∙ ap (λ (k : ℕ). getD s k 0) high)
+      ap (λ (l : List ℕ). getD l i 0) (bytes.arguments-behind s exact)
+      ∙ getD-words (behind s) i (2 * i) refl (omega (arith, bytes.length-behind s exact, framed .count))
+      ∙ ap₂ word (byte-at (2 * i) low) (byte-at (suc (2 * i)) high)
     where
+      byte-at : (j : ℕ) {k : ℕ} → 4 + nodeCount s + j ≡ k → getD (behind s) j 0 ≡ getD s k 0
+      byte-at j e = getD-drop (4 + nodeCount s) s j 0 ∙ ap (λ (k : ℕ). getD s k 0) e
+
       low : 4 + nodeCount s + 2 * i ≡ 4 + n + 2 * i
       low = omega (arith, framed .count)
 

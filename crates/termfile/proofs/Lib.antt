@@ -2,12 +2,11 @@ pub mod Reading
 pub mod Loose
 pub mod Naming
 pub mod Bytes
+pub mod Refusals
 pub mod Acceptance
 pub mod Writing
 pub mod Theorems
 pub mod Frame
-pub mod Forests
 pub mod Sizes
 pub mod Order
 pub mod Visibility
-pub mod Refusals

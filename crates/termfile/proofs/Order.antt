@@ -2,7 +2,7 @@
 -- Assumes nothing.
 use Prim.Native.Nat.{ℕ, suc, _+_, _≤_, _<_}
 use mathlib.Core.Path.{_≡_, refl, sym, ap, _∙_}
-use mathlib.Core.Bool.{Bool, true, false, cond, _&&_}
+use mathlib.Core.Bool.{Bool, true, false, cond, _&&_, and-assoc, and-true, false≢true}
 use mathlib.Core.List.{List, [], _∷_, _++_, append-assoc, append-nil}
 use mathlib.Core.Option.{Option, none, some}
 use native.Mathlib.Omega.{arith}
@@ -15,19 +15,11 @@ use Rattle.termfile.specs.Nodes.{Node, write}
 use Rattle.termfile.specs.File.{holds, tags, arguments, nodes, codeOf}
 use Rattle.termfile.specs.Passes.{Framed}
 use Rattle.termfile.proofs.Frame.{nodes-next, nodes-end}
-use Rattle.termfile.proofs.Forests.{read-write}
+use Rattle.termfile.proofs.Reading.{read-is}
 
 abbrev pub ordered : ℕ → List Node → Bool
 ordered k [] = true
 ordered k (node ∷ ns) = cond (eqb (node .tag) 1) (eqb (node .argument) k && ordered (suc k) ns) (ordered k ns)
-
-pub and-assoc : (a b c : Bool) → (a && b) && c ≡ a && (b && c)
-and-assoc true b c = refl
-and-assoc false b c = refl
-
-pub and-true : (a : Bool) → a && true ≡ a
-and-true true = refl
-and-true false = refl
 
 ordered-write : (c : Code) (k : ℕ) (ns : List Node) → ordered k (write c ++ ns) ≡ numbered k c && ordered (k + abstractions c) ns
 ordered-write (var x) k ns = ap (λ (j : ℕ). ordered j ns) (omega arith)
@@ -46,10 +38,10 @@ ordered-write (app c d) k ns =
 
 -- over the nodes of a code the pass is the paper's condition
 pub ordered-code : (s : List ℕ) (f : ℕ) → holds (λ c. true) (codeOf s) ≡ true → ordered f (nodes s) ≡ holds (numbered f) (codeOf s)
-ordered-code s f h = go (codeOf s) (read-write (nodes s)) h
+ordered-code s f h = go (codeOf s) (read-is (nodes s)) h
   where
     go : (o : Option Code) → ((c : Code) → o ≡ some c → nodes s ≡ write c) → holds (λ c. true) o ≡ true → ordered f (nodes s) ≡ holds (numbered f) o
-    go none r p = absurd (let z : _≡_ {A = ℕ} 0 1 = cc in omega arith)
+    go none r p = absurd (false≢true p)
     go (some c) r p = ap (ordered f) (r c refl ∙ sym (append-nil (write c))) ∙ ordered-write c f [] ∙ and-true (numbered f c)
 
 module _ {s : List ℕ} {n : ℕ} (framed : Framed s n) (i : ℕ) (h : i < n) (t m : ℕ) (tag : t ≡ getD (tags s) i 0) (argument : m ≡ getD (arguments s) i 0) (k : ℕ) where

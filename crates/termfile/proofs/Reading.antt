@@ -8,7 +8,7 @@ use mathlib.Core.List.{List, [], _∷_, _++_, map, append-nil, append-assoc, map
 use mathlib.Core.Option.{Option, none, some, Option·none-ne-some, Option·some-injective}
 use native.Mathlib.Omega.{arith}
 use lib.Dec.{eqb, leb}
-use lib.ListN.{length, length-append}
+use lib.ListN.{length, drop, length-append}
 use borrow.Author.Tests.{eqb-true, eq-eqb}
 use Rattle.termfile.specs.Code.{Code, var, abs, app, weigh, only, size}
 use Rattle.termfile.specs.Nodes.{Node, write, readNode, andThen, forest, single, read}
@@ -69,6 +69,13 @@ read-is ns c e = go (forest ns) (forest-is ns) e
     go (some []) h q = absurd (Option·none-ne-some c q)
     go (some (d ∷ [])) h q = h (d ∷ []) refl ∙ append-nil (write d) ∙ ap write (Option·some-injective d c q)
     go (some (d ∷ e ∷ ds)) h q = absurd (Option·none-ne-some c q)
+
+-- where the nodes from some place on do not read, the whole does not
+pub forest-none : (ns : List Node) (i : ℕ) → forest (drop i ns) ≡ none → forest ns ≡ none
+forest-none [] zero e = e
+forest-none [] (suc i) e = e
+forest-none (node ∷ ns) zero e = e
+forest-none (node ∷ ns) (suc i) e = rw (forest-none ns i e)
 
 -- Counting what was written
 

@@ -1,73 +1,87 @@
--- What the tests passed and the test failed tell of a file's refusal: a lemma for each return of `check`.
+-- The seven tests of `refusal`, one after the other: what the tests passed and the test failed tell of it, with a lemma for each answer;
+-- and what the tests say as facts about numbers. The idea: each test that is known takes one `unless` off the chain.
 -- Assumes nothing.
 use Prim.Native.Nat.{ℕ, _+_, _*_, _≤_, _<_}
-use mathlib.Core.Path.{_≡_, sym, ap, _∙_}
-use mathlib.Core.Bool.{true, false}
+use mathlib.Core.Path.{_≡_, ap, _∙_}
+use mathlib.Core.Bool.{Bool, true, false}
 use mathlib.Core.List.{List, []}
-use mathlib.Core.Option.{Option, none, some}
-use native.Mathlib.Omega.{arith}
+use mathlib.Core.Option.{none, some}
 use lib.ListN.{length}
 use borrow.Author.Tests.{le-leb, lt-leb, eq-eqb, ne-eqb}
 use Rattle.termfile.specs.Code.{numbered, scoped}
-use Rattle.termfile.specs.File.{maxFree, maxNodes, freeNames, nodeCount, tags, codeOf, known, holds, unless, refusal}
-use Rattle.termfile.specs.Passes.{Framed}
+use Rattle.termfile.specs.File.{maxFree, maxNodes, freeNames, nodeCount, codeOf, holds, longEnough, inLimits, exactLength, tagsKnown, oneTerm, bindersInPlace, variablesInScope, refusal}
 
 module _ (s : List ℕ) where
-  pub refused-short : length s < 4 → refusal s ≡ some 1
+  pub refused-short : longEnough s ≡ false → refusal s ≡ some 1
   unfolding refusal
-  refused-short h = rw (lt-leb 4 (length s) h)
+  refused-short h = rw h
 
-  module _ (long : 4 ≤ length s) where
-    pub refused-free : maxFree < freeNames s → refusal s ≡ some 2
+  module _ (a : longEnough s ≡ true) where
+    pub refused-limits : inLimits s ≡ false → refusal s ≡ some 2
     unfolding refusal
-    refused-free h = rw (le-leb 4 (length s) long, lt-leb (freeNames s) maxFree h)
+    refused-limits h = rw (a, h)
 
-    module _ (few : freeNames s ≤ maxFree) where
-      pub refused-empty : nodeCount s < 1 → refusal s ≡ some 2
+    module _ (b : inLimits s ≡ true) where
+      pub refused-length : exactLength s ≡ false → refusal s ≡ some 3
       unfolding refusal
-      refused-empty h = rw (le-leb 4 (length s) long, le-leb (freeNames s) maxFree few, lt-leb 1 (nodeCount s) h)
+      refused-length h = rw (a, b, h)
 
-      pub refused-large : 1 ≤ nodeCount s → maxNodes < nodeCount s → refusal s ≡ some 2
-      unfolding refusal
-      refused-large l h = rw (le-leb 4 (length s) long, le-leb (freeNames s) maxFree few, le-leb 1 (nodeCount s) l, lt-leb (nodeCount s) maxNodes h)
+      module _ (c : exactLength s ≡ true) where
+        pub refused-tag : tagsKnown s ≡ false → refusal s ≡ some 4
+        unfolding refusal
+        refused-tag h = rw (a, b, c, h)
 
-      pub refused-length : 1 ≤ nodeCount s → nodeCount s ≤ maxNodes → (length s ≡ 4 + 3 * nodeCount s → ⊥) → refusal s ≡ some 3
-      unfolding refusal
-      refused-length l m h = rw (le-leb 4 (length s) long, le-leb (freeNames s) maxFree few, le-leb 1 (nodeCount s) l, le-leb (nodeCount s) maxNodes m, ne-eqb (length s) (4 + 3 * nodeCount s) h)
+        module _ (d : tagsKnown s ≡ true) where
+          pub refused-shape : oneTerm s ≡ false → refusal s ≡ some 5
+          unfolding refusal
+          refused-shape h = rw (a, b, c, d, h)
 
--- the tests that are left once a file has passed the first three, with f free names
-abbrev tests : List ℕ → ℕ → Option ℕ
-tests s f = unless (known (tags s)) 4 (unless (holds (λ c. true) (codeOf s)) 5 (unless (holds (numbered f) (codeOf s)) 6 (unless (holds (scoped f []) (codeOf s)) 7 none)))
+          module _ (e : oneTerm s ≡ true) where
+            pub refused-binder : bindersInPlace s ≡ false → refusal s ≡ some 6
+            unfolding refusal
+            refused-binder h = rw (a, b, c, d, e, h)
 
-module _ {s : List ℕ} {n : ℕ} (framed : Framed s n) (f : ℕ) (names : f ≡ freeNames s) (few : f ≤ maxFree) where
-  framed-tests : refusal s ≡ tests s (freeNames s)
-  unfolding refusal
-  framed-tests =
-      rw (
-        le-leb 4 (length s) (omega (arith, framed .long)),
-        le-leb (freeNames s) maxFree (omega arith),
-        le-leb 1 (nodeCount s) (omega (arith, framed .least, framed .count)),
-        le-leb (nodeCount s) maxNodes (omega (arith, framed .most, framed .count)),
-        eq-eqb (length s) (4 + 3 * nodeCount s) (omega (arith, framed .long, framed .count)),
-      )
+            module _ (f : bindersInPlace s ≡ true) where
+              pub refused-variable : variablesInScope s ≡ false → refusal s ≡ some 7
+              unfolding refusal
+              refused-variable h = rw (a, b, c, d, e, f, h)
 
-  framed-refusal : refusal s ≡ tests s f
-  framed-refusal = framed-tests ∙ ap (tests s) (sym names)
+              pub not-refused : variablesInScope s ≡ true → refusal s ≡ none
+              unfolding refusal
+              not-refused h = rw (a, b, c, d, e, f, h)
 
-  pub refused-tag : known (tags s) ≡ false → refusal s ≡ some 4
-  refused-tag a = framed-refusal ∙ rw a
+  -- The tests as facts about numbers
 
-  module _ (a : known (tags s) ≡ true) where
-    pub refused-shape : holds (λ c. true) (codeOf s) ≡ false → refusal s ≡ some 5
-    refused-shape b = framed-refusal ∙ rw (a, b)
+  pub long-enough : 4 ≤ length s → longEnough s ≡ true
+  long-enough h = le-leb 4 (length s) h
 
-    module _ (b : holds (λ c. true) (codeOf s) ≡ true) where
-      pub refused-binder : holds (numbered f) (codeOf s) ≡ false → refusal s ≡ some 6
-      refused-binder d = framed-refusal ∙ rw (a, b, d)
+  pub not-long-enough : length s < 4 → longEnough s ≡ false
+  not-long-enough h = lt-leb 4 (length s) h
 
-      module _ (d : holds (numbered f) (codeOf s) ≡ true) where
-        pub refused-variable : holds (scoped f []) (codeOf s) ≡ false → refusal s ≡ some 7
-        refused-variable e = framed-refusal ∙ rw (a, b, d, e)
+  pub many-names : maxFree < freeNames s → inLimits s ≡ false
+  many-names h = rw (lt-leb (freeNames s) maxFree h)
 
-        pub not-refused : holds (scoped f []) (codeOf s) ≡ true → refusal s ≡ none
-        not-refused e = framed-refusal ∙ rw (a, b, d, e)
+  module _ (few : freeNames s ≤ maxFree) where
+    pub no-nodes : nodeCount s < 1 → inLimits s ≡ false
+    no-nodes h = rw (le-leb (freeNames s) maxFree few, lt-leb 1 (nodeCount s) h)
+
+    module _ (least : 1 ≤ nodeCount s) where
+      pub many-nodes : maxNodes < nodeCount s → inLimits s ≡ false
+      many-nodes h = rw (le-leb (freeNames s) maxFree few, le-leb 1 (nodeCount s) least, lt-leb (nodeCount s) maxNodes h)
+
+      pub in-limits : nodeCount s ≤ maxNodes → inLimits s ≡ true
+      in-limits h = rw (le-leb (freeNames s) maxFree few, le-leb 1 (nodeCount s) least, le-leb (nodeCount s) maxNodes h)
+
+  pub exact-length : length s ≡ 4 + 3 * nodeCount s → exactLength s ≡ true
+  exact-length h = eq-eqb (length s) (4 + 3 * nodeCount s) h
+
+  pub not-exact-length : (length s ≡ 4 + 3 * nodeCount s → ⊥) → exactLength s ≡ false
+  not-exact-length h = ne-eqb (length s) (4 + 3 * nodeCount s) h
+
+  -- the last two tests, where the count of free names has been read into f
+  module _ {f : ℕ} (names : f ≡ freeNames s) {q : Bool} where
+    pub binders-read : q ≡ holds (numbered f) (codeOf s) → q ≡ bindersInPlace s
+    binders-read h = h ∙ ap (λ (k : ℕ). holds (numbered k) (codeOf s)) names
+
+    pub variables-read : q ≡ holds (scoped f []) (codeOf s) → q ≡ variablesInScope s
+    variables-read h = h ∙ ap (λ (k : ℕ). holds (scoped k []) (codeOf s)) names

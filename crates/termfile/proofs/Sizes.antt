@@ -4,7 +4,7 @@ use Prim.Native.Nat.{ℕ, zero, suc, _+_, _-_, _≤_, _<_}
 use mathlib.Core.Path.{_≡_, refl, sym, ap, ap₂, _∙_}
 use mathlib.Core.Bool.{Bool, true, false, cond}
 use mathlib.Core.List.{List, [], _∷_, append-assoc, append-nil}
-use mathlib.Core.Option.{Option, none, some}
+use mathlib.Core.Option.{Option, none, some, Option·none-ne-some, Option·some-injective}
 use native.Mathlib.Omega.{arith}
 use lib.Dec.{eqb}
 use lib.ListN.{length, getD, take, drop, set, length-append, length-drop, length-set}
@@ -16,12 +16,7 @@ use Rattle.termfile.specs.File.{holds, tags, arguments, nodes, codeOf}
 use Rattle.termfile.specs.Passes.{Framed, Sizes, sizesIn, sizesOf, joined}
 use Rattle.termfile.specs.declared.shape.Joined.the-variants.{Size, Broken}
 use Rattle.termfile.proofs.Frame.{nodes-step, nodes-end}
-use Rattle.termfile.proofs.Forests.{none-some, some-same, forest-none}
-
-pub size-positive : (c : Code) → 1 ≤ size c
-size-positive (var x) = omega arith
-size-positive (abs x c) = omega arith
-size-positive (app c d) = omega arith
+use Rattle.termfile.proofs.Reading.{forest-none, size-pos}
 
 pub length-sizesIn : (c : Code) → length (sizesIn c) ≡ size c
 length-sizesIn (var x) = refl
@@ -72,7 +67,7 @@ module _ (t m : ℕ) (zs : List ℕ) (cs : List Code) (e : zs ≡ sizesOf cs) wh
       go : (cs : List Code) → length (sizesOf cs) ≤ m → Broken ≡ joined (readNode 2 m cs)
       go [] h = refl
       go (c ∷ []) h = refl
-      go (c ∷ d ∷ cs) h = rw (ne-eqb m (size c) (λ q. omega (arith, length-sizesOf c (d ∷ cs), length-sizesOf d cs, size-positive d)))
+      go (c ∷ d ∷ cs) h = rw (ne-eqb m (size c) (λ q. omega (arith, length-sizesOf c (d ∷ cs), length-sizesOf d cs, size-pos d)))
 
   pub join-wrong-size : t ≡ 2 → (getD zs 0 0 ≡ m → ⊥) → Broken ≡ joined (readNode t m cs)
   join-wrong-size k h = rw k (go cs (λ q. h (rw e q)))
@@ -188,16 +183,16 @@ reads-single {ns} {zs} {n} r e h = rw (r .whole, r .sized) (go (r .codes) (rw (r
     go : (cs : List Code) → length (sizesOf cs) ≡ n → eqb (getD (sizesOf cs) 0 0) n ≡ holds (λ c. true) (single (some cs))
     go [] p = absurd (omega arith)
     go (c ∷ []) p = eq-eqb (size c) n (omega (arith, length-sizesOf c []))
-    go (c ∷ d ∷ cs) p = ne-eqb (size c) n (λ q. omega (arith, length-sizesOf c (d ∷ cs), length-sizesOf d cs, size-positive d))
+    go (c ∷ d ∷ cs) p = ne-eqb (size c) n (λ q. omega (arith, length-sizesOf c (d ∷ cs), length-sizesOf d cs, size-pos d))
 
 -- and then the sizes are those of its subterms
 pub reads-sizes : {ns : List Node} {zs : List ℕ} → Reads ns zs → (c : Code) → read ns ≡ some c → zs ≡ sizesIn c
 reads-sizes {ns} {zs} r c e = r .sized ∙ go (r .codes) (sym (ap single (r .whole)) ∙ e)
   where
     go : (cs : List Code) → single (some cs) ≡ some c → sizesOf cs ≡ sizesIn c
-    go [] p = absurd (none-some p)
-    go (d ∷ []) p = append-nil (sizesIn d) ∙ ap sizesIn (some-same p)
-    go (d ∷ d′ ∷ ds) p = absurd (none-some p)
+    go [] p = absurd (Option·none-ne-some c p)
+    go (d ∷ []) p = append-nil (sizesIn d) ∙ ap sizesIn (Option·some-injective d c p)
+    go (d ∷ d′ ∷ ds) p = absurd (Option·none-ne-some c p)
 
 -- where the loop of `is_term` starts, behind the last node
 pub reads-start : {s : List ℕ} {n : ℕ} → Framed s n → (sizes : List ℕ) → Reads (drop n (nodes s)) (take (n - n) (drop n sizes))
@@ -217,4 +212,4 @@ reads-all {s} {n} framed sizes long zero h r =
 reads-all framed sizes long (suc i) h r = absurd (omega arith)
 
 pub reads-broken : (s : List ℕ) (n : ℕ) (sizes : List ℕ) → forest (nodes s) ≡ none → (false ≡ holds (λ c. true) (codeOf s)) × Sizes s n sizes
-reads-broken s n sizes e = (rw e, λ c q. absurd (none-some (sym (ap single e) ∙ q)))
+reads-broken s n sizes e = (rw e, λ c q. absurd (Option·none-ne-some c (sym (ap single e) ∙ q)))

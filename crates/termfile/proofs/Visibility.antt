@@ -2,7 +2,7 @@
 -- abstractions passed, x a name, k its place among the abstractions' names. Assumes nothing.
 use Prim.Native.Nat.{ℕ, zero, suc, _+_, _-_, _≤_, _<_}
 use mathlib.Core.Path.{_≡_, refl, sym, ap, ap₂, _∙_}
-use mathlib.Core.Bool.{Bool, true, false, cond, _&&_, _||_}
+use mathlib.Core.Bool.{Bool, true, false, cond, _&&_, _||_, and-assoc, and-true, and-eq-true-iff, false≢true}
 use mathlib.Core.List.{List, [], _∷_, _++_, append-assoc, append-nil}
 use mathlib.Core.Option.{Option, none, some}
 use native.Mathlib.Omega.{arith}
@@ -16,9 +16,8 @@ use Rattle.termfile.specs.Nodes.{Node, write}
 use Rattle.termfile.specs.File.{holds, tags, arguments, nodes, codeOf}
 use Rattle.termfile.specs.Passes.{Framed, Sizes, sizesIn}
 use Rattle.termfile.proofs.Frame.{nodes-next, nodes-end}
-use Rattle.termfile.proofs.Forests.{read-write}
+use Rattle.termfile.proofs.Reading.{read-is}
 use Rattle.termfile.proofs.Sizes.{length-sizesIn}
-use Rattle.termfile.proofs.Order.{and-assoc, and-true}
 
 -- at position p: the name x is free, or is that of an abstraction passed whose end is still to come
 abbrev pub sees : ℕ → ℕ → List ℕ → ℕ → Bool
@@ -99,14 +98,6 @@ agrees-binder f around es x p q a e k j l u = go (eqb (f + k) x) (eqb-true (f + 
         place = omega (arith, y refl)
     go false y n = ap (ltb j) (other-ends es q k (λ h. n refl (omega arith))) ∙ a k j (omega arith) u
 
-and-left : (a b : Bool) → a && b ≡ true → a ≡ true
-and-left true b e = refl
-and-left false b e = e
-
-and-right : (a b : Bool) → a && b ≡ true → b ≡ true
-and-right true b e = e
-and-right false b e = absurd (let z : _≡_ {A = ℕ} 0 1 = cc in omega arith)
-
 sees-member : (f : ℕ) (around es : List ℕ) (p q x : ℕ) → Agrees f around es p q → p < q → sees f p es x ≡ ltb x f || member x around
 sees-member f around es p q x a h = go (ltb x f) (ltb-false x f)
   where
@@ -130,16 +121,18 @@ inScope-write (abs x c) f p q es around ns zs e num a =
     ∙ ap (λ (ds : List ℕ). scoped f (x ∷ around) c && inScope f q ds ns zs) (append-assoc es (q ∷ []) (endsIn (suc p) c) ∙ ap (λ (i : ℕ). es ++ (i ∷ endsIn (suc p) c)) e)
   where
     bound : x ≡ f + length es
-    bound = eqb-true x (f + length es) (and-left (eqb x (f + length es)) (numbered (suc (f + length es)) c) num)
+    bound = eqb-true x (f + length es) (and-eq-true-iff _ _ .0 num .0)
 
     longer : f + length (es ++ (q ∷ [])) ≡ suc (f + length es)
     longer = omega (arith, length-append es (q ∷ []))
 
     inner : numbered (f + length (es ++ (q ∷ []))) c ≡ true
-    inner = ap (λ (i : ℕ). numbered i c) longer ∙ and-right (eqb x (f + length es)) (numbered (suc (f + length es)) c) num
+    inner =
+        ap (λ (i : ℕ). numbered i c) longer
+        ∙ and-eq-true-iff (eqb x (f + length es)) (numbered (suc (f + length es)) c) .0 num .1
 inScope-write (app c d) f p q es around ns zs e num a =
     ap₂ (inScope f (suc p) es) (append-assoc (write c) (write d) ns) (append-assoc (sizesIn c) (sizesIn d) zs)
-    ∙ inScope-write c f (suc p) (suc p + size c) es around (write d ++ ns) (sizesIn d ++ zs) refl (and-left (numbered (f + length es) c) (numbered (f + length es + abstractions c) d) num) (λ k j l u. a k j (omega arith) (omega arith))
+    ∙ inScope-write c f (suc p) (suc p + size c) es around (write d ++ ns) (sizesIn d ++ zs) refl (and-eq-true-iff _ _ .0 num .0) (λ k j l u. a k j (omega arith) (omega arith))
     ∙ ap (λ (b : Bool). scoped f around c && b)
     (inScope-write d f (suc p + size c) q (es ++ endsIn (suc p) c) around ns zs (omega arith) right (agrees-later f around es (endsIn (suc p) c) p (suc p + size c) q a (omega arith) (endsIn-most c (suc p) (suc p + size c) (omega arith)))
     ∙ ap (λ (ds : List ℕ). scoped f around d && inScope f q ds ns zs) (append-assoc es (endsIn (suc p) c) (endsIn (suc p + size c) d)))
@@ -149,13 +142,15 @@ inScope-write (app c d) f p q es around ns zs e num a =
     names = omega (arith, length-append es (endsIn (suc p) c), length-endsIn c (suc p))
 
     right : numbered (f + length (es ++ endsIn (suc p) c)) d ≡ true
-    right = ap (λ (i : ℕ). numbered i d) names ∙ and-right (numbered (f + length es) c) (numbered (f + length es + abstractions c) d) num
+    right =
+        ap (λ (i : ℕ). numbered i d) names
+        ∙ and-eq-true-iff (numbered (f + length es) c) (numbered (f + length es + abstractions c) d) .0 num .1
 
 pub inScope-code : (s : List ℕ) (n f : ℕ) (sizes : List ℕ) → Sizes s n sizes → holds (numbered f) (codeOf s) ≡ true → inScope f 0 [] (nodes s) (take n sizes) ≡ holds (scoped f []) (codeOf s)
-inScope-code s n f sizes known h = go (codeOf s) (read-write (nodes s)) known h
+inScope-code s n f sizes known h = go (codeOf s) (read-is (nodes s)) known h
   where
     go : (o : Option Code) → ((c : Code) → o ≡ some c → nodes s ≡ write c) → ((c : Code) → o ≡ some c → take n sizes ≡ sizesIn c) → holds (numbered f) o ≡ true → inScope f 0 [] (nodes s) (take n sizes) ≡ holds (scoped f []) o
-    go none r z p = absurd (let z : _≡_ {A = ℕ} 0 1 = cc in omega arith)
+    go none r z p = absurd (false≢true p)
     go (some c) r z p =
         ap₂ (inScope f 0 []) (r c refl ∙ sym (append-nil (write c))) (z c refl ∙ sym (append-nil (sizesIn c)))
         ∙ inScope-write c f 0 (0 + size c) [] [] [] [] refl (ap (λ (i : ℕ). numbered i c) (omega arith) ∙ p) (λ k j l u. le-ltb j 0 (omega arith))
@@ -171,7 +166,7 @@ pub sizes-most : (s : List ℕ) (n : ℕ) (sizes : List ℕ) (p : Code → Bool)
 sizes-most s n sizes p long known h i l = go (codeOf s) known h
   where
     go : (o : Option Code) → ((c : Code) → o ≡ some c → take n sizes ≡ sizesIn c) → holds p o ≡ true → getD sizes i 0 ≤ n
-    go none z q = absurd (let z : _≡_ {A = ℕ} 0 1 = cc in omega arith)
+    go none z q = absurd (false≢true q)
     go (some c) z q = let most = sizesIn-most c (size c) (omega arith) i in omega (arith, ap length (z c refl), length-take-le n sizes long, length-sizesIn c, ap (λ (l : List ℕ). getD l i 0) (z c refl), getD-take n sizes i 0 l)
 
 -- a store behind the ends of the abstractions passed

@@ -1,6 +1,6 @@
 -- Nodes in prefix order, and the code that a whole node list stands for. Letters: ns is a list of nodes, cs of codes.
 use Prim.Native.Nat.{ℕ, zero, suc}
-use mathlib.Core.Bool.{Bool, true, false, cond}
+use mathlib.Core.Bool.{cond}
 use mathlib.Core.List.{List, [], _∷_, _++_}
 use mathlib.Core.Option.{Option, none, some}
 use lib.Dec.{eqb}
