@@ -25,7 +25,8 @@ getD-words (a ∷ b ∷ l) (suc i) zero e h = omega arith
 getD-words (a ∷ b ∷ l) (suc i) (suc zero) e h = omega arith
 getD-words (a ∷ b ∷ l) (suc i) (suc (suc j)) e h = getD-words l i j (omega arith) (omega arith)
 
-getD-pairs : (ts ms : List ℕ) (i : ℕ) (d : Node) → i < length ts → length ts ≡ length ms → getD (pairs ts ms) i d ≡ record { tag = getD ts i 0; argument = getD ms i 0 }
+getD-pairs : (ts ms : List ℕ) (i : ℕ) (d : Node) → i < length ts → length ts ≡ length ms
+    → getD (pairs ts ms) i d ≡ record { tag = getD ts i 0; argument = getD ms i 0 }
 getD-pairs [] ms i d h e = absurd (omega arith)
 getD-pairs (t ∷ ts) [] i d h e = absurd (omega arith)
 getD-pairs (t ∷ ts) (m ∷ ms) zero d h e = refl
@@ -76,7 +77,8 @@ module _ {s : List ℕ} {n : ℕ} (framed : Framed s n) where
       none = record { tag = 0; argument = 0 }
 
   -- the same, as a loop has it that has read the tag t and the argument m of node i
-  pub nodes-next : (i : ℕ) → i < n → (t m : ℕ) → t ≡ getD (tags s) i 0 → m ≡ getD (arguments s) i 0 → drop i (nodes s) ≡ record { tag = t; argument = m } ∷ drop (i + 1) (nodes s)
+  pub nodes-next : (i : ℕ) → i < n → (t m : ℕ) → t ≡ getD (tags s) i 0 → m ≡ getD (arguments s) i 0
+      → drop i (nodes s) ≡ record { tag = t; argument = m } ∷ drop (i + 1) (nodes s)
   nodes-next i h t m a b = nodes-step i h ∙ cc (add-one i)
 
   pub nodes-end : (i : ℕ) → n ≤ i → drop i (nodes s) ≡ []

@@ -23,7 +23,9 @@ ordered k (node ∷ ns) = cond (eqb (node .tag) 1) (eqb (node .argument) k && or
 
 ordered-write : (c : Code) (k : ℕ) (ns : List Node) → ordered k (write c ++ ns) ≡ numbered k c && ordered (k + abstractions c) ns
 ordered-write (var x) k ns = ap (λ (j : ℕ). ordered j ns) (omega arith)
-ordered-write (abs x c) k ns = ap (λ (b : Bool). eqb x k && b) (ordered-write c (suc k) ns ∙ ap (λ (j : ℕ). numbered (suc k) c && ordered j ns) names) ∙ sym (and-assoc (eqb x k) (numbered (suc k) c) (ordered (k + (1 + abstractions c)) ns))
+ordered-write (abs x c) k ns =
+    ap (λ (b : Bool). eqb x k && b) (ordered-write c (suc k) ns ∙ ap (λ (j : ℕ). numbered (suc k) c && ordered j ns) names)
+    ∙ sym (and-assoc (eqb x k) (numbered (suc k) c) (ordered (k + (1 + abstractions c)) ns))
   where
     names : suc k + abstractions c ≡ k + (1 + abstractions c)
     names = omega arith

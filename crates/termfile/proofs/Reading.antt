@@ -57,7 +57,8 @@ pub forest-is : (ns : List Node) (cs : List Code) → forest ns ≡ some cs → 
 forest-is [] cs e = ap writes (Option·some-injective [] cs e)
 forest-is (node ∷ ns) cs e = go (forest ns) (forest-is ns) e
   where
-    go : (a : Option (List Code)) → ((ds : List Code) → a ≡ some ds → ns ≡ writes ds) → andThen a (readNode (node .tag) (node .argument)) ≡ some cs → node ∷ ns ≡ writes cs
+    go : (a : Option (List Code)) → ((ds : List Code) → a ≡ some ds → ns ≡ writes ds)
+        → andThen a (readNode (node .tag) (node .argument)) ≡ some cs → node ∷ ns ≡ writes cs
     go none h q = absurd (Option·none-ne-some cs q)
     go (some ds) h q = ap (λ l. node ∷ l) (h ds refl) ∙ node-is (node .tag) (node .argument) ds cs q
 

@@ -104,7 +104,8 @@ joined-sizes (suc (suc zero)) m k [] e = absurd (size-broken e)
 joined-sizes (suc (suc zero)) m k (c ∷ []) e = absurd (size-broken e)
 joined-sizes (suc (suc zero)) m k (c ∷ d ∷ cs) e = go (eqb m (size c)) e
   where
-    go : (q : Bool) → Size k ≡ joined (cond q (some (app c d ∷ cs)) none) → (ds : List Code) × (cond q (some (app c d ∷ cs)) none ≡ some ds) × (k ∷ sizesOf (c ∷ d ∷ cs) ≡ sizesOf ds)
+    go : (q : Bool) → Size k ≡ joined (cond q (some (app c d ∷ cs)) none)
+        → (ds : List Code) × (cond q (some (app c d ∷ cs)) none ≡ some ds) × (k ∷ sizesOf (c ∷ d ∷ cs) ≡ sizesOf ds)
     go true p = (app c d ∷ cs, refl, ap₂ (λ (z : ℕ) (zs : List ℕ). z ∷ zs) (size-same p) (sym (append-assoc (sizesIn c) (sizesIn d) (sizesOf cs))))
     go false p = absurd (size-broken p)
 joined-sizes (suc (suc (suc t))) m k cs e = absurd (size-broken e)
@@ -126,7 +127,9 @@ joined-none (suc (suc (suc t))) m cs e = refl
 -- a store in front of a part
 part-set : (l : List ℕ) (j n k : ℕ) → j < n → n ≤ length l → take (n - j) (drop j (set l j k)) ≡ k ∷ take (n - suc j) (drop (suc j) l)
 part-set l j n k h h′ =
-    ap₂ (λ (a : ℕ) (b : List ℕ). take a b) longer (drop-cons (set l j k) j 0 within ∙ ap₂ (λ (a : ℕ) (b : List ℕ). a ∷ b) (getD-set-same l j k 0 (omega arith)) (drop-set-lt (suc j) l j k (omega arith)))
+    ap₂ (λ (a : ℕ) (b : List ℕ). take a b) longer
+    (drop-cons (set l j k) j 0 within ∙ ap₂ (λ (a : ℕ) (b : List ℕ). a ∷ b) (getD-set-same l j k 0 (omega arith))
+    (drop-set-lt (suc j) l j k (omega arith)))
   where
     longer : n - j ≡ suc (n - suc j)
     longer = omega arith
@@ -142,7 +145,9 @@ reads-first {ns} {zs} r = rw (r .sized) (go (r .codes))
     go [] = omega arith
     go (c ∷ cs) = omega (arith, length-sizesOf c cs)
 
-module _ {s : List ℕ} {n : ℕ} (framed : Framed s n) (sizes : List ℕ) (long : n ≤ length sizes) (i : ℕ) (some-left : 0 < i) (within : i ≤ n) (r : Reads (drop i (nodes s)) (take (n - i) (drop i sizes))) (t m : ℕ) (tag : t ≡ getD (tags s) (i - 1) 0) (argument : m ≡ getD (arguments s) (i - 1) 0) where
+module _ {s : List ℕ} {n : ℕ} (framed : Framed s n) (sizes : List ℕ) (long : n ≤ length sizes) (i : ℕ) (some-left : 0 < i) (within : i ≤ n)
+    (r : Reads (drop i (nodes s)) (take (n - i) (drop i sizes))) (t m : ℕ) (tag : t ≡ getD (tags s) (i - 1) 0)
+    (argument : m ≡ getD (arguments s) (i - 1) 0) where
   index : suc (i - 1) ≡ i
   index = omega arith
 
@@ -202,10 +207,14 @@ reads-start {s} {n} framed sizes = record { codes = []; whole = rw (nodes-end fr
     nothing = omega arith
 
 -- and where it ends: before the first node, or where a node does not join
-pub reads-all : {s : List ℕ} {n : ℕ} → Framed s n → (sizes : List ℕ) → n ≤ length sizes → (i : ℕ) → i ≤ 0 → Reads (drop i (nodes s)) (take (n - i) (drop i sizes)) → (eqb (getD sizes 0 0) n ≡ holds (λ c. true) (codeOf s)) × Sizes s n sizes
+pub reads-all : {s : List ℕ} {n : ℕ} → Framed s n → (sizes : List ℕ) → n ≤ length sizes → (i : ℕ) → i ≤ 0
+    → Reads (drop i (nodes s)) (take (n - i) (drop i sizes)) → (eqb (getD sizes 0 0) n ≡ holds (λ c. true) (codeOf s)) × Sizes s n sizes
 reads-all {s} {n} framed sizes long zero h r =
-    let whole : Reads (nodes s) (take n sizes) = record { codes = r .codes; whole = r .whole; sized = ap (λ (k : ℕ). take k sizes) count ∙ r .sized } in
-    (ap (λ (k : ℕ). eqb k n) (sym (getD-take n sizes 0 0 (omega (arith, framed .least)))) ∙ reads-single whole (length-take-le n sizes long) (framed .least), reads-sizes whole)
+    let whole : Reads (nodes s) (take n sizes) = record { codes = r .codes; whole = r .whole; sized = ap (λ (k : ℕ). take k sizes) count ∙ r .sized } in (
+      ap (λ (k : ℕ). eqb k n) (sym (getD-take n sizes 0 0 (omega (arith, framed .least))))
+          ∙ reads-single whole (length-take-le n sizes long) (framed .least),
+      reads-sizes whole,
+    )
   where
     count : n ≡ n - 0
     count = omega arith

@@ -61,7 +61,9 @@ endsIn-most : (c : Code) (p q : ℕ) → p + size c ≤ q → Most q (endsIn p c
 endsIn-most (var x) p q h k = omega arith
 endsIn-most (abs x c) p q h zero = h
 endsIn-most (abs x c) p q h (suc k) = endsIn-most c (suc p) q (omega arith) k
-endsIn-most (app c d) p q h k = most-append q (endsIn (suc p) c) (endsIn (suc p + size c) d) (endsIn-most c (suc p) q (omega arith)) (endsIn-most d (suc p + size c) q (omega arith)) k
+endsIn-most (app c d) p q h k =
+    most-append q (endsIn (suc p) c) (endsIn (suc p + size c) d) (endsIn-most c (suc p) q (omega arith))
+    (endsIn-most d (suc p + size c) q (omega arith)) k
 
 length-endsIn : (c : Code) (p : ℕ) → length (endsIn p c) ≡ abstractions c
 length-endsIn (var x) p = refl
@@ -109,7 +111,9 @@ sees-member f around es p q x a h = go (ltb x f) (ltb-false x f)
         back = omega (arith, l refl)
 
 -- over a code's nodes the pass is the paper's condition, and goes on behind them
-inScope-write : (c : Code) (f p q : ℕ) (es around : List ℕ) (ns : List Node) (zs : List ℕ) → q ≡ p + size c → numbered (f + length es) c ≡ true → Agrees f around es p q → inScope f p es (write c ++ ns) (sizesIn c ++ zs) ≡ scoped f around c && inScope f q (es ++ endsIn p c) ns zs
+inScope-write : (c : Code) (f p q : ℕ) (es around : List ℕ) (ns : List Node) (zs : List ℕ) → q ≡ p + size c
+    → numbered (f + length es) c ≡ true → Agrees f around es p q
+    → inScope f p es (write c ++ ns) (sizesIn c ++ zs) ≡ scoped f around c && inScope f q (es ++ endsIn p c) ns zs
 inScope-write (var x) f p q es around ns zs e num a =
     ap₂ _&&_ (sees-member f around es p q x a (omega arith)) (ap₂ (λ (i : ℕ) (ds : List ℕ). inScope f i ds ns zs) next (sym (append-nil es)))
   where
@@ -118,7 +122,8 @@ inScope-write (var x) f p q es around ns zs e num a =
 inScope-write (abs x c) f p q es around ns zs e num a =
     ap (λ (i : ℕ). inScope f (suc p) (es ++ (i ∷ [])) (write c ++ ns) (sizesIn c ++ zs)) (sym e)
     ∙ inScope-write c f (suc p) q (es ++ (q ∷ [])) (x ∷ around) ns zs (omega arith) inner (agrees-binder f around es x p q a bound)
-    ∙ ap (λ (ds : List ℕ). scoped f (x ∷ around) c && inScope f q ds ns zs) (append-assoc es (q ∷ []) (endsIn (suc p) c) ∙ ap (λ (i : ℕ). es ++ (i ∷ endsIn (suc p) c)) e)
+    ∙ ap (λ (ds : List ℕ). scoped f (x ∷ around) c && inScope f q ds ns zs)
+    (append-assoc es (q ∷ []) (endsIn (suc p) c) ∙ ap (λ (i : ℕ). es ++ (i ∷ endsIn (suc p) c)) e)
   where
     bound : x ≡ f + length es
     bound = eqb-true x (f + length es) (and-eq-true-iff _ _ .0 num .0)
@@ -132,9 +137,11 @@ inScope-write (abs x c) f p q es around ns zs e num a =
         ∙ and-eq-true-iff (eqb x (f + length es)) (numbered (suc (f + length es)) c) .0 num .1
 inScope-write (app c d) f p q es around ns zs e num a =
     ap₂ (inScope f (suc p) es) (append-assoc (write c) (write d) ns) (append-assoc (sizesIn c) (sizesIn d) zs)
-    ∙ inScope-write c f (suc p) (suc p + size c) es around (write d ++ ns) (sizesIn d ++ zs) refl (and-eq-true-iff _ _ .0 num .0) (λ k j l u. a k j (omega arith) (omega arith))
+    ∙ inScope-write c f (suc p) (suc p + size c) es around (write d ++ ns) (sizesIn d ++ zs) refl (and-eq-true-iff _ _ .0 num .0)
+    (λ k j l u. a k j (omega arith) (omega arith))
     ∙ ap (λ (b : Bool). scoped f around c && b)
-    (inScope-write d f (suc p + size c) q (es ++ endsIn (suc p) c) around ns zs (omega arith) right (agrees-later f around es (endsIn (suc p) c) p (suc p + size c) q a (omega arith) (endsIn-most c (suc p) (suc p + size c) (omega arith)))
+    (inScope-write d f (suc p + size c) q (es ++ endsIn (suc p) c) around ns zs (omega arith) right
+    (agrees-later f around es (endsIn (suc p) c) p (suc p + size c) q a (omega arith) (endsIn-most c (suc p) (suc p + size c) (omega arith)))
     ∙ ap (λ (ds : List ℕ). scoped f around d && inScope f q ds ns zs) (append-assoc es (endsIn (suc p) c) (endsIn (suc p + size c) d)))
     ∙ sym (and-assoc (scoped f around c) (scoped f around d) (inScope f q (es ++ (endsIn (suc p) c ++ endsIn (suc p + size c) d)) ns zs))
   where
@@ -146,10 +153,12 @@ inScope-write (app c d) f p q es around ns zs e num a =
         ap (λ (i : ℕ). numbered i d) names
         ∙ and-eq-true-iff (numbered (f + length es) c) (numbered (f + length es + abstractions c) d) .0 num .1
 
-pub inScope-code : (s : List ℕ) (n f : ℕ) (sizes : List ℕ) → Sizes s n sizes → holds (numbered f) (codeOf s) ≡ true → inScope f 0 [] (nodes s) (take n sizes) ≡ holds (scoped f []) (codeOf s)
+pub inScope-code : (s : List ℕ) (n f : ℕ) (sizes : List ℕ) → Sizes s n sizes → holds (numbered f) (codeOf s) ≡ true
+    → inScope f 0 [] (nodes s) (take n sizes) ≡ holds (scoped f []) (codeOf s)
 inScope-code s n f sizes known h = go (codeOf s) (read-is (nodes s)) known h
   where
-    go : (o : Option Code) → ((c : Code) → o ≡ some c → nodes s ≡ write c) → ((c : Code) → o ≡ some c → take n sizes ≡ sizesIn c) → holds (numbered f) o ≡ true → inScope f 0 [] (nodes s) (take n sizes) ≡ holds (scoped f []) o
+    go : (o : Option Code) → ((c : Code) → o ≡ some c → nodes s ≡ write c) → ((c : Code) → o ≡ some c → take n sizes ≡ sizesIn c)
+        → holds (numbered f) o ≡ true → inScope f 0 [] (nodes s) (take n sizes) ≡ holds (scoped f []) o
     go none r z p = absurd (false≢true p)
     go (some c) r z p =
         ap₂ (inScope f 0 []) (r c refl ∙ sym (append-nil (write c))) (z c refl ∙ sym (append-nil (sizesIn c)))
@@ -159,22 +168,34 @@ inScope-code s n f sizes known h = go (codeOf s) (read-is (nodes s)) known h
 sizesIn-most : (c : Code) (q : ℕ) → size c ≤ q → Most q (sizesIn c)
 sizesIn-most (var x) q h = most-cons q (size (var x)) [] h (λ k. omega arith)
 sizesIn-most (abs x c) q h = most-cons q (size (abs x c)) (sizesIn c) h (sizesIn-most c q (omega arith))
-sizesIn-most (app c d) q h = most-cons q (size (app c d)) (sizesIn c ++ sizesIn d) h (most-append q (sizesIn c) (sizesIn d) (sizesIn-most c q (omega arith)) (sizesIn-most d q (omega arith)))
+sizesIn-most (app c d) q h =
+    most-cons q (size (app c d)) (sizesIn c ++ sizesIn d) h
+    (most-append q (sizesIn c) (sizesIn d) (sizesIn-most c q (omega arith)) (sizesIn-most d q (omega arith)))
 
 -- a subterm's size is at most the number of nodes
-pub sizes-most : (s : List ℕ) (n : ℕ) (sizes : List ℕ) (p : Code → Bool) → n ≤ length sizes → Sizes s n sizes → holds p (codeOf s) ≡ true → (i : ℕ) → i < n → getD sizes i 0 ≤ n
+pub sizes-most : (s : List ℕ) (n : ℕ) (sizes : List ℕ) (p : Code → Bool) → n ≤ length sizes → Sizes s n sizes
+    → holds p (codeOf s) ≡ true → (i : ℕ) → i < n → getD sizes i 0 ≤ n
 sizes-most s n sizes p long known h i l = go (codeOf s) known h
   where
     go : (o : Option Code) → ((c : Code) → o ≡ some c → take n sizes ≡ sizesIn c) → holds p o ≡ true → getD sizes i 0 ≤ n
     go none z q = absurd (false≢true q)
-    go (some c) z q = let most = sizesIn-most c (size c) (omega arith) i in omega (arith, ap length (z c refl), length-take-le n sizes long, length-sizesIn c, ap (λ (l : List ℕ). getD l i 0) (z c refl), getD-take n sizes i 0 l)
+    go (some c) z q =
+        let most = sizesIn-most c (size c) (omega arith) i in omega (
+          arith,
+          ap length (z c refl),
+          length-take-le n sizes long,
+          length-sizesIn c,
+          ap (λ (l : List ℕ). getD l i 0) (z c refl),
+          getD-take n sizes i 0 l,
+        )
 
 -- a store behind the ends of the abstractions passed
 ends-more : (ends : List ℕ) (seen e : ℕ) → seen < length ends → take (seen + 1) (set ends seen e) ≡ take seen ends ++ (e ∷ [])
 ends-more ends seen e h = rw (add-one, take-suc-set ends seen e h)
 
 -- a turn of the loop of `in_scope`, at node i with the tag t and the argument m
-module _ {s : List ℕ} {n : ℕ} (framed : Framed s n) (f : ℕ) (sizes : List ℕ) (long : n ≤ length sizes) (i : ℕ) (h : i < n) (t m : ℕ) (tag : t ≡ getD (tags s) i 0) (argument : m ≡ getD (arguments s) i 0) where
+module _ {s : List ℕ} {n : ℕ} (framed : Framed s n) (f : ℕ) (sizes : List ℕ) (long : n ≤ length sizes) (i : ℕ) (h : i < n) (t m : ℕ)
+    (tag : t ≡ getD (tags s) i 0) (argument : m ≡ getD (arguments s) i 0) where
   -- the pass from node i on, and from the next node on, with these ends
   abbrev here : List ℕ → Bool
   here es = inScope f i es (drop i (nodes s)) (drop i (take n sizes))
@@ -195,7 +216,10 @@ module _ {s : List ℕ} {n : ℕ} (framed : Framed s n) (f : ℕ) (sizes : List 
   scope-broken es a b = next es ∙ rw (eq-eqb t 0 a, b)
 
   pub scope-binder : (ends : List ℕ) (seen : ℕ) → seen < length ends → t ≡ 1 → here (take seen ends) ≡ there (take (seen + 1) (set ends seen (i + getD sizes i 0)))
-  scope-binder ends seen l a = next (take seen ends) ∙ rw (a, add-one i) (ap (λ (es : List ℕ). inScope f (suc i) es (drop (suc i) (nodes s)) (drop (suc i) (take n sizes))) (sym (ends-more ends seen (i + getD sizes i 0) l)))
+  scope-binder ends seen l a =
+      next (take seen ends)
+      ∙ rw (a, add-one i) (ap (λ (es : List ℕ). inScope f (suc i) es (drop (suc i) (nodes s)) (drop (suc i) (take n sizes)))
+      (sym (ends-more ends seen (i + getD sizes i 0) l)))
 
   pub scope-other : (es : List ℕ) → (t ≡ 0 → ⊥) → (t ≡ 1 → ⊥) → here es ≡ there es
   scope-other es a b = next es ∙ rw (ne-eqb t 0 a, ne-eqb t 1 b, add-one i)

@@ -126,7 +126,9 @@ returns-8 : tie.Need-returns-8
 returns-8 c =
     let at = c .before .before .before .before .before .before .before .before in
     let call = c .before .in-order in
-    rw (refused-binder (file at) (long-passes at) (limits-pass at) (length-passes at) (tags-pass (c .before .before .before .before .before .before)) (term-passes (c .before .before))
+    rw
+    (refused-binder (file at) (long-passes at) (limits-pass at) (length-passes at)
+    (tags-pass (c .before .before .before .before .before .before)) (term-passes (c .before .before))
     (sym (binders-read (file at) (names at) (call .ensures)) ∙ not-true (call .result) (c .if8 .taken)))
 
 slice-aggregate-in-scope : tie.Need-slice-aggregate-in-scope

@@ -7,7 +7,8 @@ use Rattle.termfile.specs.File.{freeNames, nodeCount, tags, count, count
 use Rattle.termfile.proofs.counted.Statement.{statement}
 use Rattle.termfile.proofs.counted.Tie as tie
 
-counts-fields : (s : List ℕ) {f n l v a : ℕ} → f ≡ freeNames s → n ≡ nodeCount s → l ≡ count 1 (tags s) → v ≡ count 0 (tags s) → a ≡ count 2 (tags s) → record { free = f; nodes = n; abstractions = l; variables = v; applications = a } ≡ counts s
+counts-fields : (s : List ℕ) {f n l v a : ℕ} → f ≡ freeNames s → n ≡ nodeCount s → l ≡ count 1 (tags s) → v ≡ count 0 (tags s)
+    → a ≡ count 2 (tags s) → record { free = f; nodes = n; abstractions = l; variables = v; applications = a } ≡ counts s
 counts-fields s f n l v a = rw (f, n, l, v, a)
 
 count-tag-requires : tie.Need-count-tag-requires
@@ -22,7 +23,8 @@ count-tag-requires-3 c κs = c .before .before .before .pre .0
 returns : tie.Need-returns
 returns c =
     let start = c .before .before .before .before in
-    counts-fields (start .args .file .now) (start .pre .1) (start .pre .0 .count) (c .before .before .count-tag .ensures) (c .before .count-tag2 .ensures) (c .count-tag3 .ensures)
+    counts-fields (start .args .file .now) (start .pre .1) (start .pre .0 .count) (c .before .before .count-tag .ensures)
+    (c .before .count-tag2 .ensures) (c .count-tag3 .ensures)
 
 pub counted-spec : {M : Type 1} → statement M
 counted-spec =

@@ -34,7 +34,9 @@ returns c =
     let test = c .before .before .before .before .loop-test in
     let tag = c .before .before .before .tag-of in
     let argument = c .before .before .argument-of in
-    sym (sym (ordered-code (start .args .file .now) (start .args .f) (start .pre .1 .1)) ∙ loop .inv .2 ∙ order-broken (start .pre .0) (loop .i) (test .taken) (tag .result) (argument .result) (tag .ensures) (argument .ensures) (loop .name) (c .before .if1 .taken) (c .if2 .taken))
+    sym
+    (sym (ordered-code (start .args .file .now) (start .args .f) (start .pre .1 .1)) ∙ loop .inv .2 ∙ order-broken (start .pre .0) (loop .i)
+    (test .taken) (tag .result) (argument .result) (tag .ensures) (argument .ensures) (loop .name) (c .before .if1 .taken) (c .if2 .taken))
 
 add-name : tie.Need-add-name Inv-loop μ-loop
 add-name c = omega (arith, c .before .before .before .before .before .before .before .pre .0 .most)
@@ -48,8 +50,13 @@ loop-again c =
     let loop = c .before .before .before .before .before .loop in
     let test = c .before .before .before .before .loop-test in
     let tag = c .before .before .before .tag-of in
-    let argument = c .before .before .argument-of in
-    (omega arith, omega arith, loop .inv .2 ∙ order-binder (start .pre .0) (loop .i) (test .taken) (tag .result) (argument .result) (tag .ensures) (argument .ensures) (loop .name) (c .before .if1 .taken) (c .if2 .left))
+    let argument = c .before .before .argument-of in (
+      omega arith,
+      omega arith,
+      loop .inv .2
+          ∙ order-binder (start .pre .0) (loop .i) (test .taken) (tag .result) (argument .result) (tag .ensures) (argument .ensures) (loop .name)
+          (c .before .if1 .taken) (c .if2 .left),
+    )
 
 loop-less-2 : tie.Need-loop-less-2 Inv-loop μ-loop
 loop-less-2 c = omega arith
@@ -60,14 +67,21 @@ loop-again-2 c =
     let loop = c .before .before .before .before .loop in
     let test = c .before .before .before .loop-test in
     let tag = c .before .before .tag-of in
-    let argument = c .before .argument-of in
-    (omega arith, omega arith, loop .inv .2 ∙ order-other (start .pre .0) (loop .i) (test .taken) (tag .result) (argument .result) (tag .ensures) (argument .ensures) (loop .name) (c .if1 .left))
+    let argument = c .before .argument-of in (
+      omega arith,
+      omega arith,
+      loop .inv .2
+          ∙ order-other (start .pre .0) (loop .i) (test .taken) (tag .result) (argument .result) (tag .ensures) (argument .ensures) (loop .name)
+          (c .if1 .left),
+    )
 
 returns-2 : tie.Need-returns-2 Inv-loop μ-loop
 returns-2 c =
     let start = c .before .before .before in
     let loop = c .before .loop in
-    sym (sym (ordered-code (start .args .file .now) (start .args .f) (start .pre .1 .1)) ∙ loop .inv .2 ∙ order-end (start .pre .0) (loop .i) (loop .name) (c .loop-test .left))
+    sym
+    (sym (ordered-code (start .args .file .now) (start .args .f) (start .pre .1 .1)) ∙ loop .inv .2 ∙ order-end (start .pre .0) (loop .i)
+    (loop .name) (c .loop-test .left))
 
 pub in-order-spec : {M : Type 1} → statement M
 in-order-spec =

@@ -13,7 +13,9 @@ use Rattle.termfile.proofs.scope.in_scope.Statement.{statement}
 use Rattle.termfile.proofs.scope.in_scope.Tie as tie
 
 abbrev Inv-loop : tie.InvT-loop
-Inv-loop file n f sizes ends₀ seen₀ i₀ ends seen i = (i ≤ n) × (seen ≤ i) × (length ends ≡ length ends₀) × (inScope f 0 [] (nodes file) (take n sizes) ≡ inScope f i (take seen ends) (drop i (nodes file)) (drop i (take n sizes)))
+Inv-loop file n f sizes ends₀ seen₀ i₀ ends seen i =
+    (i ≤ n) × (seen ≤ i) × (length ends ≡ length ends₀) ×
+    (inScope f 0 [] (nodes file) (take n sizes) ≡ inScope f i (take seen ends) (drop i (nodes file)) (drop i (take n sizes)))
 
 abbrev μ-loop : tie.MeasureT-loop
 μ-loop file n f sizes ends₀ seen₀ i₀ ends seen i = n - i
@@ -45,7 +47,12 @@ returns c =
     let argument = c .before .before .before .before .argument-of in
     let visible = c .before .visible in
     let branch = c .before .before .before .match in
-    sym (sym (inScope-code (start .args .file .now) (start .args .n) (start .args .f) (start .args .sizes .now) (start .pre .1 .1 .1 .0) (start .pre .1 .1 .1 .1)) ∙ loop .inv .3 ∙ scope-broken (start .pre .0) (start .args .f) (start .args .sizes .now) (start .pre .1 .0) (loop .i) (test .taken) (tag .result) (argument .result) (tag .ensures) (argument .ensures) (take (loop .seen) (loop .ends)) (branch .keys1) (sym (visible .ensures) ∙ not-true (visible .result) (c .if1 .taken)))
+    sym
+    (sym
+    (inScope-code (start .args .file .now) (start .args .n) (start .args .f) (start .args .sizes .now) (start .pre .1 .1 .1 .0) (start .pre .1 .1 .1 .1))
+    ∙ loop .inv .3 ∙ scope-broken (start .pre .0) (start .args .f) (start .args .sizes .now) (start .pre .1 .0) (loop .i) (test .taken)
+    (tag .result) (argument .result) (tag .ensures) (argument .ensures) (take (loop .seen) (loop .ends)) (branch .keys1)
+    (sym (visible .ensures) ∙ not-true (visible .result) (c .if1 .taken)))
 
 loop-less : tie.Need-loop-less Inv-loop μ-loop
 loop-less c = omega arith
@@ -58,8 +65,15 @@ loop-again c =
     let tag = c .before .before .before .before .before .tag-of in
     let argument = c .before .before .before .before .argument-of in
     let visible = c .before .visible in
-    let branch = c .before .before .before .match in
-    (omega arith, omega arith, loop .inv .2, loop .inv .3 ∙ scope-variable (start .pre .0) (start .args .f) (start .args .sizes .now) (start .pre .1 .0) (loop .i) (test .taken) (tag .result) (argument .result) (tag .ensures) (argument .ensures) (take (loop .seen) (loop .ends)) (branch .keys1) (sym (visible .ensures) ∙ not-false (visible .result) (c .if1 .left)))
+    let branch = c .before .before .before .match in (
+      omega arith,
+      omega arith,
+      loop .inv .2,
+      loop .inv .3
+          ∙ scope-variable (start .pre .0) (start .args .f) (start .args .sizes .now) (start .pre .1 .0) (loop .i) (test .taken) (tag .result)
+          (argument .result) (tag .ensures) (argument .ensures) (take (loop .seen) (loop .ends)) (branch .keys1)
+          (sym (visible .ensures) ∙ not-false (visible .result) (c .if1 .left)),
+    )
 
 mul-ends : tie.Need-mul-ends Inv-loop μ-loop
 mul-ends c = omega arith
@@ -78,7 +92,12 @@ cast-ends-2 c =
     let start = c .before .before .before .before .before .before .before .before .before in
     let loop = c .before .before .before .before .before .loop in
     let test = c .before .before .before .before .loop-test in
-    omega (arith, start .pre .0 .most, sizes-most (start .args .file .now) (start .args .n) (start .args .sizes .now) (numbered (start .args .f)) (start .pre .1 .0) (start .pre .1 .1 .1 .0) (start .pre .1 .1 .1 .1) (loop .i) (test .taken))
+    omega (
+      arith,
+      start .pre .0 .most,
+      sizes-most (start .args .file .now) (start .args .n) (start .args .sizes .now) (numbered (start .args .f))
+          (start .pre .1 .0) (start .pre .1 .1 .1 .0) (start .pre .1 .1 .1 .1) (loop .i) (test .taken),
+    )
 
 mul-ends-2 : tie.Need-mul-ends-2 Inv-loop μ-loop
 mul-ends-2 c = omega (arith, c .before .before .before .before .before .before .before .before .before .pre .1 .1 .0)
@@ -99,8 +118,14 @@ loop-again-2 c =
     let test = c .before .before .before .before .loop-test in
     let tag = c .before .before .before .tag-of in
     let argument = c .before .before .argument-of in
-    let branch = c .before .match in
-    (omega arith, omega arith, simp length-set (omega arith), loop .inv .3 ∙ scope-binder (start .pre .0) (start .args .f) (start .args .sizes .now) (start .pre .1 .0) (loop .i) (test .taken) (tag .result) (argument .result) (tag .ensures) (argument .ensures) (loop .ends) (loop .seen) (omega (arith, start .pre .1 .1 .0)) (branch .keys2))
+    let branch = c .before .match in (
+      omega arith,
+      omega arith,
+      simp length-set (omega arith),
+      loop .inv .3
+          ∙ scope-binder (start .pre .0) (start .args .f) (start .args .sizes .now) (start .pre .1 .0) (loop .i) (test .taken) (tag .result)
+          (argument .result) (tag .ensures) (argument .ensures) (loop .ends) (loop .seen) (omega (arith, start .pre .1 .1 .0)) (branch .keys2),
+    )
 
 loop-less-3 : tie.Need-loop-less-3 Inv-loop μ-loop
 loop-less-3 c = omega arith
@@ -111,8 +136,14 @@ loop-again-3 c =
     let loop = c .before .before .before .before .loop in
     let test = c .before .before .before .loop-test in
     let tag = c .before .before .tag-of in
-    let argument = c .before .argument-of in
-    (omega arith, omega arith, loop .inv .2, loop .inv .3 ∙ scope-other (start .pre .0) (start .args .f) (start .args .sizes .now) (start .pre .1 .0) (loop .i) (test .taken) (tag .result) (argument .result) (tag .ensures) (argument .ensures) (take (loop .seen) (loop .ends)) (c .match .rest .0 .1) (c .match .rest .1))
+    let argument = c .before .argument-of in (
+      omega arith,
+      omega arith,
+      loop .inv .2,
+      loop .inv .3
+          ∙ scope-other (start .pre .0) (start .args .f) (start .args .sizes .now) (start .pre .1 .0) (loop .i) (test .taken) (tag .result)
+          (argument .result) (tag .ensures) (argument .ensures) (take (loop .seen) (loop .ends)) (c .match .rest .0 .1) (c .match .rest .1),
+    )
 
 same-length-2 : tie.Need-same-length-2 Inv-loop μ-loop
 same-length-2 c = c .before .loop .inv .2
@@ -121,7 +152,11 @@ returns-2 : tie.Need-returns-2 Inv-loop μ-loop
 returns-2 c =
     let start = c .before .before .before .before .before in
     let loop = c .before .loop in
-    sym (sym (inScope-code (start .args .file .now) (start .args .n) (start .args .f) (start .args .sizes .now) (start .pre .1 .1 .1 .0) (start .pre .1 .1 .1 .1)) ∙ loop .inv .3 ∙ scope-end (start .pre .0) (start .args .f) (loop .i) (take (loop .seen) (loop .ends)) (drop (loop .i) (take (start .args .n) (start .args .sizes .now))) (c .loop-test .left))
+    sym
+    (sym
+    (inScope-code (start .args .file .now) (start .args .n) (start .args .f) (start .args .sizes .now) (start .pre .1 .1 .1 .0) (start .pre .1 .1 .1 .1))
+    ∙ loop .inv .3 ∙ scope-end (start .pre .0) (start .args .f) (loop .i) (take (loop .seen) (loop .ends))
+    (drop (loop .i) (take (start .args .n) (start .args .sizes .now))) (c .loop-test .left))
 
 pub in-scope-spec : {M : Type 1} → statement M
 in-scope-spec =

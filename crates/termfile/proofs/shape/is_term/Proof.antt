@@ -59,7 +59,10 @@ returns c =
     let tag = c .before .before .before .before .before .before .tag-of in
     let argument = c .before .before .before .before .before .argument-of in
     let join = c .before .before .join in
-    reads-broken (start .args .file .now) (start .args .n) (loop .sizes) (reads-none (start .pre .0) (loop .sizes) (omega arith) (loop .i) (test .taken) (loop .inv .0) (loop .inv .2) (tag .result) (argument .result) (tag .ensures) (argument .ensures) (sym (c .enum-told .given .1) ∙ join .ensures (loop .inv .2 .codes) (loop .inv .2 .sized)))
+    reads-broken (start .args .file .now) (start .args .n) (loop .sizes)
+    (reads-none (start .pre .0) (loop .sizes) (omega arith) (loop .i) (test .taken) (loop .inv .0) (loop .inv .2) (tag .result)
+    (argument .result) (tag .ensures) (argument .ensures)
+    (sym (c .enum-told .given .1) ∙ join .ensures (loop .inv .2 .codes) (loop .inv .2 .sized)))
 
 cast-sizes : tie.Need-cast-sizes Inv-loop μ-loop
 cast-sizes c =
@@ -70,7 +73,13 @@ cast-sizes c =
     let argument = c .before .before .before .before .before .before .argument-of in
     let join = c .before .before .before .join in
     let size = c .before .size in
-    omega (arith, start .pre .0 .most, size-within (start .pre .0) (loop .sizes) (omega arith) (loop .i) (test .taken) (loop .inv .0) (loop .inv .2) (tag .result) (argument .result) (tag .ensures) (argument .ensures) (size .given .0 .0) (sym (size .given .1) ∙ join .ensures (loop .inv .2 .codes) (loop .inv .2 .sized)))
+    omega (
+      arith,
+      start .pre .0 .most,
+      size-within (start .pre .0) (loop .sizes) (omega arith) (loop .i) (test .taken) (loop .inv .0)
+          (loop .inv .2) (tag .result) (argument .result) (tag .ensures) (argument .ensures) (size .given .0 .0)
+          (sym (size .given .1) ∙ join .ensures (loop .inv .2 .codes) (loop .inv .2 .sized)),
+    )
 
 mul-sizes : tie.Need-mul-sizes Inv-loop μ-loop
 mul-sizes c = omega arith
@@ -89,8 +98,13 @@ loop-again c =
     let tag = c .before .before .before .before .before .before .before .tag-of in
     let argument = c .before .before .before .before .before .before .argument-of in
     let join = c .before .before .before .join in
-    let size = c .before .size in
-    (omega arith, simp length-set (omega arith), reads-more (start .pre .0) (loop .sizes) (omega arith) (loop .i) (test .taken) (loop .inv .0) (loop .inv .2) (tag .result) (argument .result) (tag .ensures) (argument .ensures) (size .given .0 .0) (sym (size .given .1) ∙ join .ensures (loop .inv .2 .codes) (loop .inv .2 .sized)))
+    let size = c .before .size in (
+      omega arith,
+      simp length-set (omega arith),
+      reads-more (start .pre .0) (loop .sizes) (omega arith) (loop .i) (test .taken) (loop .inv .0) (loop .inv .2) (tag .result)
+          (argument .result) (tag .ensures) (argument .ensures) (size .given .0 .0)
+          (sym (size .given .1) ∙ join .ensures (loop .inv .2 .codes) (loop .inv .2 .sized)),
+    )
 
 slice-read-result : tie.Need-slice-read-result Inv-loop μ-loop
 slice-read-result c = omega (arith, c .before .before .before .before .before .pre .0 .least)

@@ -35,8 +35,11 @@ loop-again c =
     let start = c .before .before .before .before .before in
     let loop = c .before .before .before .loop in
     let test = c .before .before .loop-test in
-    let tag = c .before .tag-of in
-    (omega arith, omega arith, omega (arith, loop .inv .2, count-step (start .pre) (loop .i) (test .taken) (tag .result) (tag .ensures) (start .args .kind) (c .if1 .taken)))
+    let tag = c .before .tag-of in (
+      omega arith,
+      omega arith,
+      omega (arith, loop .inv .2, count-step (start .pre) (loop .i) (test .taken) (tag .result) (tag .ensures) (start .args .kind) (c .if1 .taken)),
+    )
 
 loop-less-2 : tie.Need-loop-less-2 Inv-loop μ-loop
 loop-less-2 c = omega arith
@@ -46,8 +49,11 @@ loop-again-2 c =
     let start = c .before .before .before .before .before in
     let loop = c .before .before .before .loop in
     let test = c .before .before .loop-test in
-    let tag = c .before .tag-of in
-    (omega arith, omega arith, omega (arith, loop .inv .2, count-other (start .pre) (loop .i) (test .taken) (tag .result) (tag .ensures) (start .args .kind) (c .if1 .left)))
+    let tag = c .before .tag-of in (
+      omega arith,
+      omega arith,
+      omega (arith, loop .inv .2, count-other (start .pre) (loop .i) (test .taken) (tag .result) (tag .ensures) (start .args .kind) (c .if1 .left)),
+    )
 
 returns : tie.Need-returns Inv-loop μ-loop
 returns c =
