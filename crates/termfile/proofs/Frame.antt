@@ -1,4 +1,5 @@
--- Where a file's tags, arguments and nodes stand in its bytes, and one step of a pass over them.
+-- Where a file's tags, arguments and nodes stand in its bytes, and one step of a pass over them. The idea: a pass at node i has the
+-- tags, or the nodes, from i on left, and these are the one at i in front of those from i + 1 on.
 -- Assumes nothing.
 use Prim.Native.Nat.{ℕ, zero, suc, _+_, _*_, _≤_, _<_}
 use mathlib.Core.Path.{_≡_, refl, sym, ap, ap₂, _∙_}

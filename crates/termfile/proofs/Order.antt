@@ -1,4 +1,5 @@
--- Refusal 6 as a pass over the nodes, left to right. Letters: k is the name that the next abstraction has to bind.
+-- Refusal 6 as a pass over the nodes, left to right. The idea: prefix order is the order in which the pass meets the abstractions, so it
+-- need only count them. Letters: k is the name that the next abstraction has to bind.
 -- Assumes nothing.
 use Prim.Native.Nat.{ℕ, suc, _+_, _≤_, _<_}
 use mathlib.Core.Path.{_≡_, refl, sym, ap, _∙_}

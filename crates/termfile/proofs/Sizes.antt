@@ -1,4 +1,6 @@
--- The sizes of codes that stand one after the other, and what a node read leaves of them. Letters: t is a tag, m an argument, zs are sizes.
+-- Refusal 5 told from sizes: the sizes of codes that stand one after the other, and what a node read leaves of them. The idea: whether a
+-- node joins the codes behind it depends only on their sizes, and the second code's size stands where the first code ends. Letters: t is
+-- a tag, m an argument, zs are sizes.
 -- Assumes nothing.
 use Prim.Native.Nat.{ℕ, zero, suc, _+_, _-_, _≤_, _<_}
 use mathlib.Core.Path.{_≡_, refl, sym, ap, ap₂, _∙_}

@@ -1,5 +1,7 @@
--- Refusal 7 as a pass over the nodes and the sizes of their subterms, left to right. Letters: p q j are positions, es has the ends of the
--- abstractions passed, x a name, k its place among the abstractions' names. Assumes nothing.
+-- Refusal 7 as a pass over the nodes and the sizes of their subterms, left to right. The idea: an abstraction that has been passed is
+-- around a position exactly when its end is still to come. Letters: p q j are positions, es has the ends of the abstractions passed, x a
+-- name, k its place among the abstractions' names.
+-- Assumes nothing.
 use Prim.Native.Nat.{ℕ, zero, suc, _+_, _-_, _≤_, _<_}
 use mathlib.Core.Path.{_≡_, refl, sym, ap, ap₂, _∙_}
 use mathlib.Core.Bool.{Bool, true, false, cond, _&&_, _||_, and-assoc, and-true, and-eq-true-iff, false≢true}

@@ -1,4 +1,16 @@
-// The term file: `check` reads a byte string and says whether it is a term file.
+// The term file: whether a byte string is one. `check` takes any byte string and promises the answer
+// that paper 01's table of numbered answers gives for it: the counts of an accepted file, or the
+// first refusal that the file meets, each tested over the whole file before the next. It writes to
+// nothing that is lent to it, and takes time linear in the file. Refused are:
+//
+//   1 Short     fewer than 4 bytes
+//   2 Limits    above 16,384 free names, no node, or above 16,384 nodes
+//   3 Length    another length than 4 bytes, and 3 for each node
+//   4 Tag       a tag above 2
+//   5 Shape     nodes that are not one whole term using all of them, or an application whose
+//               argument is not its left part's size
+//   6 Binder    an abstraction that binds another name than its place gives
+//   7 Variable  a variable that is neither free nor bound by an abstraction around it
 mod binders;
 mod layout;
 mod scope;
@@ -48,8 +60,13 @@ const MAX_FREE: usize = 16384;
 const MAX_NODES: usize = 16384;
 
 // Whether a byte string is a term file: its counts, or the first of the seven refusals that it
-// meets. Each test is made over the whole file before the next, in time linear in the file; nothing
-// is written but two arrays of its own.
+// meets. The answer is an equation with its definition, for every byte string; only two arrays of
+// the function's own are written.
+//
+// Ruled out, for instance: accepting `a2 l0 v0 v0` with f = 0, whose last variable is bound by a
+// neighbouring abstraction and not by one around it (must-fail/scope_past_end.edit); and answering
+// 7 for a file in which an abstraction also binds a wrong name, which is 6
+// (must-fail/binder_as_variable.edit).
 pub fn check(file: &[u8]) -> Checked
     ensures { λ r. ⌜ told r ≡ answer (now (file .entry)) ⌝ }
 {

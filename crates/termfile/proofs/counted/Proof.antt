@@ -1,4 +1,4 @@
--- `counted` meets its contract, field by field.
+-- `counted` meets its contract, field by field: the two counts are those of the header, and the others are the tags counted.
 -- Assumes nothing.
 use Prim.Native.Nat.{ℕ}
 use mathlib.Core.Path.{_≡_}

@@ -1,5 +1,6 @@
 -- `binders::in_order` meets its contract. The loop's invariant: the nodes are in order exactly when those from i on are, from `name` on.
--- The measure is the number of nodes from i on. Assumes nothing.
+-- The measure is the number of nodes from i on.
+-- Assumes nothing.
 use Prim.Native.Nat.{_≤_, _-_, _+_}
 use mathlib.Core.Path.{_≡_, refl, sym, _∙_}
 use lib.ListN.{drop}

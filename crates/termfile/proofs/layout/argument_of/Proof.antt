@@ -1,4 +1,4 @@
--- `layout::argument_of` meets its contract.
+-- `layout::argument_of` meets its contract: argument i stands 2 i bytes behind the tags, and a framed file reaches so far.
 -- Assumes nothing.
 use mathlib.Core.Path.{sym, _∙_}
 use Rattle.termfile.proofs.Frame.{argument-at}

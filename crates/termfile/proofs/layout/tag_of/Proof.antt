@@ -1,4 +1,4 @@
--- `layout::tag_of` meets its contract.
+-- `layout::tag_of` meets its contract: tag i stands i bytes behind the header's four, and a framed file reaches so far.
 -- Assumes nothing.
 use mathlib.Core.Path.{sym}
 use Rattle.termfile.proofs.Frame.{tag-at}

@@ -1,5 +1,6 @@
 -- `scope::in_scope` meets its contract. The loop's invariant: the nodes are in scope exactly when those from i on are, with the ends of
--- the abstractions seen. The measure is the number of nodes from i on. Assumes nothing.
+-- the abstractions seen. The measure is the number of nodes from i on.
+-- Assumes nothing.
 use Prim.Native.Nat.{_≤_, _-_}
 use mathlib.Core.Path.{_≡_, refl, sym, _∙_}
 use mathlib.Core.List.{[]}

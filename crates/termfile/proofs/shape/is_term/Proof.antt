@@ -1,5 +1,6 @@
 -- `shape::is_term` meets its contract. The loop's invariant: the nodes from i on read as codes, whose sizes are those stored from i on.
--- The measure is i. Assumes nothing.
+-- The measure is i.
+-- Assumes nothing.
 use Prim.Native.Nat.{_≤_, _-_}
 use mathlib.Core.Path.{_≡_, refl, sym, _∙_}
 use lib.ListN.{length, take, drop, length-set}

@@ -1,5 +1,6 @@
 -- `tags::count_tag` meets its contract. The loop's invariant: the count is the sum so far and that of the tags from i on.
--- The measure is the number of tags from i on. Assumes nothing.
+-- The measure is the number of tags from i on.
+-- Assumes nothing.
 use Prim.Native.Nat.{_≤_, _-_, _+_}
 use mathlib.Core.Path.{_≡_, ap}
 use lib.ListN.{drop}

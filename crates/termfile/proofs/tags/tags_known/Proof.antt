@@ -1,5 +1,6 @@
 -- `tags::tags_known` meets its contract. The loop's invariant: the tags are known exactly when those from i on are.
--- The measure is the number of tags from i on. Assumes nothing.
+-- The measure is the number of tags from i on.
+-- Assumes nothing.
 use Prim.Native.Nat.{_≤_, _-_}
 use mathlib.Core.Path.{_≡_, refl, sym, ap, _∙_}
 use lib.ListN.{drop}
