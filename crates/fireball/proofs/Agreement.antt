@@ -1,4 +1,5 @@
--- The step function finds a step exactly where the relation has one, and the same.
+-- The step function finds a step exactly where the relation has one, and the same. The idea: the tests agree with the definitions of
+-- inert terms and fireballs, and the function tries the three places in turn.
 -- Assumes nothing.
 use Prim.Native.Nat.{ℕ, zero, suc}
 use mathlib.Core.Path.{_≡_, refl, sym, subst, _∙_}

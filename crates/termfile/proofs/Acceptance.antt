@@ -4,7 +4,7 @@ use Prim.Native.Nat.{ℕ, _+_, _*_, _≤_}
 use mathlib.Core.Path.{_≡_, refl, sym, ap, subst, _∙_}
 use mathlib.Core.Bool.{Bool, true, false, and-eq-true-iff, false≢true}
 use mathlib.Core.List.{List, []}
-use mathlib.Core.Option.{Option, none, some, Option·some-ne-none}
+use mathlib.Core.Option.{Option, none, some}
 use native.Mathlib.Omega.{arith}
 use lib.ListN.{length}
 use borrow.Author.Tests.{leb-true, eqb-true}
@@ -13,7 +13,7 @@ use Rattle.termfile.specs.Nodes.{write}
 use Rattle.termfile.specs.File.{maxFree, maxNodes, freeNames, nodeCount, tags, nodes, codeOf, known, holds, unless, longEnough, inLimits, exactLength, tagsKnown, oneTerm, bindersInPlace, variablesInScope, refusal, count}
 use Rattle.termfile.proofs.Reading.{read-is, length-write, count-write}
 use Rattle.termfile.proofs.Bytes.{tags-nodes, length-nodes}
-use Rattle.termfile.proofs.Refusals.{not-refused, long-enough, in-limits, exact-length}
+use Rattle.termfile.proofs.Refusals.{unless-none, not-refused, long-enough, in-limits, exact-length}
 
 -- what the tests say of a file that passes them all
 pub record Accepted (s : List ℕ) : Type 0 where
@@ -27,10 +27,6 @@ pub record Accepted (s : List ℕ) : Type 0 where
   pub nodes-limit : nodeCount s ≤ maxNodes
   pub exact : length s ≡ 4 + 3 * nodeCount s
   pub known-tags : known (tags s) ≡ true
-
-unless-none : (q : Bool) (k : ℕ) (rest : Option ℕ) → unless q k rest ≡ none → (q ≡ true) × (rest ≡ none)
-unless-none true k rest e = (refl, e)
-unless-none false k rest e = absurd (Option·some-ne-none k e)
 
 -- two tests of one code that hold
 found : (p q : Code → Bool) (o : Option Code) → holds p o ≡ true → holds q o ≡ true → (c : Code) × (o ≡ some c) × (p c ≡ true) × (q c ≡ true)

@@ -2,14 +2,19 @@
 -- and what the tests say as facts about numbers. The idea: each test that is known takes one `unless` off the chain.
 -- Assumes nothing.
 use Prim.Native.Nat.{ℕ, _+_, _*_, _≤_, _<_}
-use mathlib.Core.Path.{_≡_, ap, _∙_}
+use mathlib.Core.Path.{_≡_, refl, ap, _∙_}
 use mathlib.Core.Bool.{Bool, true, false}
 use mathlib.Core.List.{List, []}
-use mathlib.Core.Option.{none, some}
+use mathlib.Core.Option.{Option, none, some, Option·some-ne-none}
 use lib.ListN.{length}
 use borrow.Author.Tests.{le-leb, lt-leb, eq-eqb, ne-eqb}
 use Rattle.termfile.specs.Code.{numbered, scoped}
-use Rattle.termfile.specs.File.{maxFree, maxNodes, freeNames, nodeCount, codeOf, holds, longEnough, inLimits, exactLength, tagsKnown, oneTerm, bindersInPlace, variablesInScope, refusal}
+use Rattle.termfile.specs.File.{maxFree, maxNodes, freeNames, nodeCount, codeOf, holds, unless, longEnough, inLimits, exactLength, tagsKnown, oneTerm, bindersInPlace, variablesInScope, refusal}
+
+-- a test that does not refuse holds, and nor does a later one refuse
+pub unless-none : (q : Bool) (k : ℕ) (rest : Option ℕ) → unless q k rest ≡ none → (q ≡ true) × (rest ≡ none)
+unless-none true k rest e = (refl, e)
+unless-none false k rest e = absurd (Option·some-ne-none k e)
 
 module _ (s : List ℕ) where
   pub refused-short : longEnough s ≡ false → refusal s ≡ some 1
