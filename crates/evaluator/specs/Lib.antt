@@ -1,0 +1,12 @@
+pub mod Heap
+pub mod Storing
+pub mod Walk
+pub mod Moves
+pub mod Choosing
+pub mod Running
+pub mod Calling
+pub mod Output
+pub mod Sizes
+pub mod Jobs
+pub mod Final
+pub mod Promise
