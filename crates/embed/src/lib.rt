@@ -1,0 +1,150 @@
+// The evaluator for programs in other languages: numbers and slices only.
+//
+// `glow_evaluate` evaluates one term file and returns a status: 0 a normal form is written, 1 the budget
+// is spent, 2 the run is refused, 3 the file is refused, 4 the report array has fewer than 12 elements.
+// The report array then begins with: the refusal's number or 0, the nodes written or 0, the steps beta,
+// subst, enter, leave-fun and leave-inert, the nodes, cells and names taken, and the allowances for
+// substs and shifts. Where the file is refused only the number is written.
+use evaluator::Answer;
+use evaluator::Outcome;
+use evaluator::Refusal;
+use evaluator::Report;
+ghost use mathlib.Core.Path.{_≡_};
+ghost use Prim.Native.Nat.{_≤_};
+ghost use lib.ListN.{length};
+ghost use Rattle.termfile.specs.Answer as file;
+ghost use Rattle.machine.specs.Answer.{overlay, number-alone, report as reported};
+ghost use Rattle.evaluator.specs.Choosing.{number};
+ghost use Rattle.evaluator.specs.Calling.{toldOutcome, toldReport};
+ghost use Rattle.evaluator.specs.Promise.{memory};
+ghost use Rattle.embed.specs.Embedding.{outcomeStatus, refusalOf, writtenOf, numbersOf, Embedded};
+
+// The paper's number of a file's refusal.
+fn file_number(why: termfile::Refusal) -> u64
+    ensures { λ q. ⌜ q ≡ file.number why ⌝ }
+{
+    match why {
+        termfile::Refusal::Short => 1,
+        termfile::Refusal::Limits => 2,
+        termfile::Refusal::Length => 3,
+        termfile::Refusal::Tag => 4,
+        termfile::Refusal::Shape => 5,
+        termfile::Refusal::Binder => 6,
+        termfile::Refusal::Variable => 7,
+    }
+}
+
+// The paper's number of a run's refusal.
+fn run_number(why: Refusal) -> u64
+    ensures { λ q. ⌜ q ≡ number why ⌝ }
+{
+    match why {
+        Refusal::Cells => 8,
+        Refusal::Nodes => 9,
+        Refusal::Names => 10,
+        Refusal::Renumber => 11,
+        Refusal::Output => 12,
+        Refusal::Chain => 13,
+    }
+}
+
+// A run's refusal, or 0.
+fn refusal_of(outcome: Outcome) -> u64
+    ensures { λ q. ⌜ q ≡ refusalOf (toldOutcome outcome) ⌝ }
+{
+    match outcome {
+        Outcome::Refused(why) => run_number(why),
+        Outcome::Normal(_) => 0,
+        Outcome::Spent => 0,
+    }
+}
+
+// The nodes written, or 0.
+fn written_of(outcome: Outcome) -> u64
+    ensures { λ q. ⌜ q ≡ writtenOf (toldOutcome outcome) ⌝ }
+{
+    match outcome {
+        Outcome::Normal(n) => n as u64,
+        Outcome::Spent => 0,
+        Outcome::Refused(_) => 0,
+    }
+}
+
+fn status_of(outcome: Outcome) -> u32
+    ensures { λ q. ⌜ q ≡ outcomeStatus (toldOutcome outcome) ⌝ }
+{
+    match outcome {
+        Outcome::Normal(_) => 0,
+        Outcome::Spent => 1,
+        Outcome::Refused(_) => 2,
+    }
+}
+
+// Writes the numbers of a run's report.
+fn write_report(r: Report, report: &mut [u64])
+    requires { ⌜ 12 ≤ length (now report) ⌝ }
+    ensures { λ _. ⌜ now (report .exit) ≡ overlay (numbersOf (reported (toldReport r))) (now (report .entry)) ⌝ }
+{
+    let outcome = r.outcome;
+    report[0] = refusal_of(outcome);
+    report[1] = written_of(outcome);
+    report[2] = r.beta;
+    report[3] = r.subst;
+    report[4] = r.enter;
+    report[5] = r.leave_fun;
+    report[6] = r.leave_inert;
+    report[7] = r.nodes as u64;
+    report[8] = r.cells as u64;
+    report[9] = r.names as u64;
+    report[10] = r.subst_allowance;
+    report[11] = r.shift_allowance;
+}
+
+#[no_mangle]
+pub extern "C" fn glow_evaluate(
+    file: &[u8],
+    budget: u32,
+    tags: &mut [u8],
+    args: &mut [u16],
+    codes: &mut [u16],
+    owns: &mut [u16],
+    nexts: &mut [u16],
+    places: &mut [u16],
+    renumber: &mut [u16],
+    out_tags: &mut [u8],
+    out_args: &mut [u16],
+    report: &mut [u64],
+) -> u32
+    ensures { λ q. ⌜ Embedded (now (file .entry)) budget q
+        (memory (now (tags .entry)) (now (args .entry)) (now (codes .entry)) (now (owns .entry)) (now (nexts .entry)) (now (places .entry)) (now (renumber .entry)) (now («out_tags» .entry)) (now («out_args» .entry)))
+        (memory (now (tags .exit)) (now (args .exit)) (now (codes .exit)) (now (owns .exit)) (now (nexts .exit)) (now (places .exit)) (now (renumber .exit)) (now («out_tags» .exit)) (now («out_args» .exit)))
+        (now (report .entry)) (now (report .exit)) ⌝ }
+{
+    if report.len() < 12 {
+        return 4;
+    }
+    let answer = evaluator::evaluate(
+        file,
+        budget,
+        tags,
+        args,
+        codes,
+        owns,
+        nexts,
+        places,
+        renumber,
+        out_tags,
+        out_args,
+    );
+    match answer {
+        Answer::FileRefused(why) => {
+            report[0] = file_number(why);
+            3
+        }
+        Answer::Ran(r) => {
+            let outcome = r.outcome;
+            write_report(r, report);
+            status_of(outcome)
+        }
+    }
+}
