@@ -1,0 +1,281 @@
+// A call, and its line: the name, all that the answer has, and whether the arrays that must not change
+// hold what they were filled with.
+use crate::build::put_file;
+use crate::kept::kept_bytes;
+use crate::kept::kept_words;
+use crate::kept::stores_kept;
+use crate::text::budget_of;
+use crate::text::fill_of;
+use evaluator::Answer;
+use evaluator::Outcome;
+use evaluator::Refusal;
+use evaluator::Report;
+use libc::STDOUT_FILENO;
+
+// Where it is asked for, a run that takes much of the stores: (λx. x x) (λx. x x), with a budget of
+// 1000 steps, which it spends.
+pub fn run_another(
+    asked: bool,
+    tags: &mut [u8],
+    args: &mut [u16],
+    codes: &mut [u16],
+    owns: &mut [u16],
+    nexts: &mut [u16],
+    places: &mut [u16],
+    renumber: &mut [u16],
+    out_tags: &mut [u8],
+    out_args: &mut [u16],
+) {
+    let mut file = [0u8; 31];
+    put_file(b"; f0 a4 l0 a1 v0 v0 l1 a1 v1 v1", &mut file);
+    if asked {
+        evaluator::evaluate(
+            &file,
+            1000,
+            tags,
+            args,
+            codes,
+            owns,
+            nexts,
+            places,
+            renumber,
+            out_tags,
+            out_args,
+        );
+    }
+}
+
+// Makes the call and writes its line.
+pub fn call(
+    name: &[u8],
+    numbers: &[u8],
+    file: &[u8],
+    tags: &mut [u8],
+    args: &mut [u16],
+    codes: &mut [u16],
+    owns: &mut [u16],
+    nexts: &mut [u16],
+    places: &mut [u16],
+    renumber: &mut [u16],
+    out_tags: &mut [u8],
+    out_args: &mut [u16],
+) {
+    let answer = evaluator::evaluate(
+        file,
+        budget_of(numbers),
+        tags,
+        args,
+        codes,
+        owns,
+        nexts,
+        places,
+        renumber,
+        out_tags,
+        out_args,
+    );
+    io::write_all(STDOUT_FILENO, name);
+    finish(
+        answer,
+        numbers,
+        tags,
+        args,
+        codes,
+        owns,
+        nexts,
+        places,
+        renumber,
+        out_tags,
+        out_args,
+    );
+}
+
+// Writes the answer, and whether what must be left as it was is so.
+fn finish(
+    answer: Answer,
+    numbers: &[u8],
+    tags: &[u8],
+    args: &[u16],
+    codes: &[u16],
+    owns: &[u16],
+    nexts: &[u16],
+    places: &[u16],
+    renumber: &[u16],
+    out_tags: &[u8],
+    out_args: &[u16],
+) {
+    let fill = fill_of(numbers);
+    let word = fill.word;
+    let byte = fill.byte;
+    let left = write_answer(answer, out_tags, out_args);
+    io::write_all(STDOUT_FILENO, b"; ");
+    let mut kept = kept_bytes(out_tags, left.output, byte)
+        & kept_words(out_args, left.output, word);
+    if left.stores {
+        let same = stores_kept(tags, args, codes, owns, nexts, places, word, byte);
+        kept = kept & (same | fill.dirty);
+        io::write_all(STDOUT_FILENO, b"stores, ");
+    }
+    if left.renumber {
+        kept = kept & kept_words(renumber, 0, word);
+        io::write_all(STDOUT_FILENO, b"renumber, ");
+    }
+    write_kept(kept);
+}
+
+fn write_kept(kept: bool) {
+    if kept {
+        io::write_all(STDOUT_FILENO, b"output kept\n");
+    } else {
+        io::write_all(STDOUT_FILENO, b"output CHANGED\n");
+    }
+}
+
+// What must be left as it was: the node, cell and name stores; the renumber store; and the output from
+// a place on.
+struct Left {
+    stores: bool,
+    renumber: bool,
+    output: usize,
+}
+
+fn write_answer(answer: Answer, out_tags: &[u8], out_args: &[u16]) -> Left {
+    match answer {
+        Answer::FileRefused(why) => {
+            write_number(b": refused ", number_of_file(why));
+            Left {
+                stores: true,
+                renumber: true,
+                output: 0,
+            }
+        }
+        Answer::Ran(report) => write_report(report, out_tags, out_args),
+    }
+}
+
+fn write_report(report: Report, out_tags: &[u8], out_args: &[u16]) -> Left {
+    let outcome = report.outcome;
+    write_outcome(outcome);
+    write_number(b", beta ", report.beta);
+    write_number(b", subst ", report.subst);
+    write_number(b", enter ", report.enter);
+    write_number(b", leave ", report.leave_fun);
+    write_number(b" ", report.leave_inert);
+    write_number(b", store ", report.nodes as u64);
+    write_number(b" ", report.cells as u64);
+    write_number(b" ", report.names as u64);
+    write_number(b", of ", report.subst_allowance);
+    write_number(b" ", report.shift_allowance);
+    let loading = report.nodes == 0;
+    match outcome {
+        Outcome::Normal(n) => {
+            io::write_all(STDOUT_FILENO, b",");
+            write_term(out_tags, out_args, n);
+            Left {
+                stores: loading,
+                renumber: false,
+                output: n,
+            }
+        }
+        _ => Left {
+            stores: loading,
+            renumber: true,
+            output: 0,
+        },
+    }
+}
+
+fn write_outcome(outcome: Outcome) {
+    match outcome {
+        Outcome::Normal(n) => {
+            write_number(b": normal ", n as u64);
+        }
+        Outcome::Spent => {
+            io::write_all(STDOUT_FILENO, b": spent");
+        }
+        Outcome::Refused(why) => {
+            write_number(b": refused ", number_of_run(why));
+        }
+    }
+}
+
+// The table's number of a file's refusal.
+fn number_of_file(refusal: termfile::Refusal) -> u64 {
+    match refusal {
+        termfile::Refusal::Short => 1,
+        termfile::Refusal::Limits => 2,
+        termfile::Refusal::Length => 3,
+        termfile::Refusal::Tag => 4,
+        termfile::Refusal::Shape => 5,
+        termfile::Refusal::Binder => 6,
+        termfile::Refusal::Variable => 7,
+    }
+}
+
+// The table's number of a run's refusal.
+fn number_of_run(refusal: Refusal) -> u64 {
+    match refusal {
+        Refusal::Cells => 8,
+        Refusal::Nodes => 9,
+        Refusal::Names => 10,
+        Refusal::Renumber => 11,
+        Refusal::Output => 12,
+        Refusal::Chain => 13,
+    }
+}
+
+fn write_number(before: &[u8], number: u64) {
+    io::write_all(STDOUT_FILENO, before);
+    io::print_decimal(STDOUT_FILENO, number);
+}
+
+// Writes a term of n nodes: the nodes as the paper writes them, or a digest of more than 70.
+fn write_term(out_tags: &[u8], out_args: &[u16], n: usize) {
+    if n > out_tags.len() {
+        return;
+    }
+    if n > out_args.len() {
+        return;
+    }
+    if n > 70 {
+        write_digest(digest(out_tags, out_args, n));
+        return;
+    }
+    let mut i = 0;
+    while i < n {
+        write_node(out_tags[i], out_args[i]);
+        i += 1;
+    }
+}
+
+fn write_digest(sum: u64) {
+    write_number(b" digest ", sum);
+}
+
+fn write_node(tag: u8, argument: u16) {
+    let number = argument as u64;
+    match tag {
+        0 => write_number(b" v", number),
+        1 => write_number(b" l", number),
+        2 => write_number(b" a", number),
+        _ => write_number(b" ?", number),
+    }
+}
+
+// A number that depends on each of the first n nodes.
+fn digest(tags: &[u8], arguments: &[u16], n: usize) -> u64 {
+    let mut sum: u64 = 0;
+    let mut i = 0;
+    while i < n {
+        if i < tags.len() {
+            if i < arguments.len() {
+                sum = with_node(sum, tags[i], arguments[i]);
+            }
+        }
+        i += 1;
+    }
+    sum
+}
+
+fn with_node(sum: u64, tag: u8, argument: u16) -> u64 {
+    (sum % 4294967296 * 4099 + tag as u64 * 65536 + argument as u64 + 1) % 4294967296
+}
