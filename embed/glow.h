@@ -1,0 +1,68 @@
+/* glow: open lambda terms evaluated by the Easy GLAMOUR machine. Link with libembed.a. */
+#ifndef GLOW_H
+#define GLOW_H
+
+#include <stddef.h>
+#include <stdint.h>
+
+#ifdef __cplusplus
+extern "C" {
+#endif
+
+/* What glow_evaluate returns. */
+enum glow_status {
+    GLOW_NORMAL = 0,            /* the term is in the output arrays */
+    GLOW_SPENT = 1,             /* the budget ran out before the normal form */
+    GLOW_REFUSED = 2,           /* refusal 8 to 13, its number in report[GLOW_REFUSAL] */
+    GLOW_FILE_REFUSED = 3,      /* refusal 1 to 7; only report[GLOW_REFUSAL] is written, no array is changed */
+    GLOW_REPORT_TOO_SHORT = 4   /* report_len is below GLOW_REPORT_LEN; nothing is touched */
+};
+
+/* Refusal numbers. */
+enum glow_refusal {
+    GLOW_FILE_TOO_SHORT = 1,    /* fewer than 4 bytes */
+    GLOW_FILE_LIMITS = 2,       /* f or n outside its limits */
+    GLOW_FILE_LENGTH = 3,       /* length is not 4 + 3 n */
+    GLOW_FILE_TAG = 4,          /* a tag above 2 */
+    GLOW_FILE_SHAPE = 5,        /* not one whole term, or a wrong left size */
+    GLOW_FILE_BINDER = 6,       /* an abstraction binds another name than its place gives */
+    GLOW_FILE_UNBOUND = 7,      /* a variable neither free nor bound around it */
+    GLOW_NO_CELLS = 8,
+    GLOW_NO_NODES = 9,
+    GLOW_NO_NAMES = 10,
+    GLOW_NO_RENUMBER = 11,      /* renumber store shorter than the names in use */
+    GLOW_NO_OUTPUT = 12,        /* the term written out exceeds the output */
+    GLOW_ENTRY = 13             /* proved never to come */
+};
+
+/* Elements of the report. */
+enum glow_report {
+    GLOW_REFUSAL = 0, GLOW_WRITTEN = 1, GLOW_BETA = 2, GLOW_SUBST = 3, GLOW_ENTER = 4,
+    GLOW_LEAVE_FUN = 5, GLOW_LEAVE_INERT = 6, GLOW_NODES = 7, GLOW_CELLS = 8, GLOW_NAMES = 9,
+    GLOW_SUBST_ALLOWANCE = 10, GLOW_SHIFT_ALLOWANCE = 11, GLOW_REPORT_LEN = 12
+};
+
+/* Tags of nodes. */
+enum glow_tag { GLOW_VARIABLE = 0, GLOW_ABSTRACTION = 1, GLOW_APPLICATION = 2 };
+
+#define GLOW_MOST_FILE_NODES 16384  /* n of a term file, and nodes written out */
+#define GLOW_MOST_COUNTED 32768     /* counted of the node, cell and name stores */
+
+/* Writing a result calls itself, once for each entry or item it passes through, about 500 bytes of
+   stack each: 4.2 MB at most with the program's stores, 7 MB with the largest. Call it where there is
+   a stack of 8 MiB. No two arrays may overlap. A pointer may be anything when its length is 0, except null. */
+uint32_t glow_evaluate(
+    const uint8_t *file, size_t file_len, uint32_t budget,
+    uint8_t *tags, size_t tags_len, uint16_t *args, size_t args_len,            /* node store */
+    uint16_t *codes, size_t codes_len, uint16_t *owns, size_t owns_len,
+    uint16_t *nexts, size_t nexts_len,                                          /* cell store */
+    uint16_t *places, size_t places_len,                                        /* name store */
+    uint16_t *renumber, size_t renumber_len,
+    uint8_t *out_tags, size_t out_tags_len, uint16_t *out_args, size_t out_args_len,
+    uint64_t *report, size_t report_len);
+
+#ifdef __cplusplus
+}
+#endif
+
+#endif

@@ -1,0 +1,229 @@
+//! A safe wrapper of `glow_evaluate`: open lambda terms evaluated by the Easy GLAMOUR machine.
+//!
+//! ```no_run
+//! use glow::{Answer, Outcome, Stores};
+//! let mut stores = Stores::glow();
+//! let file = [1, 0, 4, 0, 2, 1, 0, 0, 2, 0, 1, 0, 1, 0, 0, 0]; // (\x. x) y
+//! if let Answer::Ran { outcome: Outcome::Normal { term }, report } = stores.evaluate(&file, 1000) {
+//!     println!("{term} after {} beta steps", report.beta);
+//! }
+//! ```
+//!
+//! The only `unsafe` is the one call in [`evaluate_in`]: the C function is lent slices that are
+//! live for the whole call, each with its own length, and never two that overlap.
+
+use std::fmt;
+
+/// Elements of the report array.
+pub const REPORT_LEN: usize = 12;
+/// The most nodes a term file may have, and the most that are written out.
+pub const MOST_NODES_IN_A_FILE: usize = 16_384;
+/// The most that is counted of the node, cell and name stores.
+pub const MOST_COUNTED: usize = 32_768;
+
+mod ffi {
+    extern "C" {
+        pub fn glow_evaluate(
+            file: *const u8, file_len: usize, budget: u32,
+            tags: *mut u8, tags_len: usize, args: *mut u16, args_len: usize,
+            codes: *mut u16, codes_len: usize, owns: *mut u16, owns_len: usize,
+            nexts: *mut u16, nexts_len: usize,
+            places: *mut u16, places_len: usize,
+            renumber: *mut u16, renumber_len: usize,
+            out_tags: *mut u8, out_tags_len: usize, out_args: *mut u16, out_args_len: usize,
+            report: *mut u64, report_len: usize,
+        ) -> u32;
+    }
+}
+
+/// Stack that a call may need: the library's unfolding of the result calls itself once for each
+/// argument inside an argument and each entry behind an entry. A new thread of Rust's standard
+/// library has only 2 MiB; terms nested thousands deep need more. See [`Stores::evaluate_deep`].
+pub const STACK_FOR_ANY_TERM: usize = 16 << 20;
+
+/// What the call itself says.
+#[derive(Clone, Copy, Debug, PartialEq, Eq)]
+pub enum Status { Normal, Spent, Refused, FileRefused, ReportTooShort }
+
+impl Status {
+    fn of(number: u32) -> Status {
+        match number {
+            0 => Status::Normal,
+            1 => Status::Spent,
+            2 => Status::Refused,
+            3 => Status::FileRefused,
+            4 => Status::ReportTooShort,
+            other => panic!("glow_evaluate answered {other}, which no paper names"),
+        }
+    }
+}
+
+/// Refusals 1 to 7: the file is not a term file. Nothing is run and no array is changed.
+#[derive(Clone, Copy, Debug, PartialEq, Eq)]
+pub enum FileRefusal {
+    TooShort, Limits, Length, Tag, Shape, Binder, Unbound,
+}
+
+impl FileRefusal {
+    pub fn number(self) -> u8 { self as u8 + 1 }
+    pub fn of(number: u64) -> Option<FileRefusal> {
+        use FileRefusal::*;
+        [TooShort, Limits, Length, Tag, Shape, Binder, Unbound].into_iter().find(|r| u64::from(r.number()) == number)
+    }
+}
+
+/// Refusals 8 to 13: a store is too small, or (13) an entry is of a kind that, as is proved, no run makes.
+#[derive(Clone, Copy, Debug, PartialEq, Eq)]
+pub enum Refusal { Cells, Nodes, Names, Renumber, Output, Entry }
+
+impl Refusal {
+    pub fn number(self) -> u8 { self as u8 + 8 }
+    pub fn of(number: u64) -> Option<Refusal> {
+        use Refusal::*;
+        [Cells, Nodes, Names, Renumber, Output, Entry].into_iter().find(|r| u64::from(r.number()) == number)
+    }
+}
+
+/// Counts of the steps made, store figures and the two allowances.
+#[derive(Clone, Copy, Debug, Default, PartialEq, Eq)]
+pub struct Report {
+    pub beta: u64,
+    pub subst: u64,
+    pub enter: u64,
+    pub leave_fun: u64,
+    pub leave_inert: u64,
+    pub nodes: u64,
+    pub cells: u64,
+    pub names: u64,
+    pub subst_allowance: u64,
+    pub shift_allowance: u64,
+}
+
+impl Report {
+    pub fn shift(&self) -> u64 { self.enter + self.leave_fun + self.leave_inert }
+    pub fn steps(&self) -> u64 { self.beta + self.subst + self.shift() }
+}
+
+/// A term in the two arrays of the term file, canonical for its count of free names.
+#[derive(Clone, Debug, PartialEq, Eq)]
+pub struct Term { pub tags: Vec<u8>, pub args: Vec<u16> }
+
+impl Term {
+    /// The term as a term file, with `free` the f of the file that was evaluated.
+    pub fn to_file(&self, free: u16) -> Vec<u8> {
+        let mut bytes = Vec::with_capacity(4 + 3 * self.tags.len());
+        bytes.extend_from_slice(&free.to_le_bytes());
+        bytes.extend_from_slice(&(self.tags.len() as u16).to_le_bytes());
+        bytes.extend_from_slice(&self.tags);
+        for a in &self.args { bytes.extend_from_slice(&a.to_le_bytes()); }
+        bytes
+    }
+}
+
+impl fmt::Display for Term {
+    fn fmt(&self, out: &mut fmt::Formatter<'_>) -> fmt::Result {
+        for (i, (t, a)) in self.tags.iter().zip(&self.args).enumerate() {
+            if i > 0 { out.write_str(" ")?; }
+            write!(out, "{}{}", match t { 0 => 'v', 1 => 'l', _ => 'a' }, a)?;
+        }
+        Ok(())
+    }
+}
+
+#[derive(Clone, Debug, PartialEq, Eq)]
+pub enum Outcome { Normal { term: Term }, Spent, Refused(Refusal) }
+
+#[derive(Clone, Debug, PartialEq, Eq)]
+pub enum Answer { FileRefused(FileRefusal), Ran { outcome: Outcome, report: Report } }
+
+/// The lent arrays, owned here. The vectors are public and may be of any lengths;
+/// what they hold before a call changes nothing in the answer.
+#[derive(Clone, Debug, Default)]
+pub struct Stores {
+    pub tags: Vec<u8>,
+    pub args: Vec<u16>,
+    pub codes: Vec<u16>,
+    pub owns: Vec<u16>,
+    pub nexts: Vec<u16>,
+    pub places: Vec<u16>,
+    pub renumber: Vec<u16>,
+    pub out_tags: Vec<u8>,
+    pub out_args: Vec<u16>,
+}
+
+impl Stores {
+    /// Zeroed stores of chosen lengths.
+    pub fn new(nodes: usize, cells: usize, names: usize, renumber: usize, output: usize) -> Stores {
+        Stores {
+            tags: vec![0; nodes], args: vec![0; nodes],
+            codes: vec![0; cells], owns: vec![0; cells], nexts: vec![0; cells],
+            places: vec![0; names], renumber: vec![0; renumber],
+            out_tags: vec![0; output], out_args: vec![0; output],
+        }
+    }
+
+    /// The stores of the program glow.
+    pub fn glow() -> Stores { Stores::new(16_384, 16_384, 32_768, 32_768, 16_384) }
+
+    /// The longest stores of which everything is counted.
+    pub fn largest() -> Stores { Stores::new(32_768, 32_768, 32_768, 32_768, 16_384) }
+
+    /// As [`Stores::evaluate`], in a thread of its own with a stack that is enough for every term.
+    pub fn evaluate_deep(&mut self, file: &[u8], budget: u32) -> Answer {
+        std::thread::scope(|scope| {
+            std::thread::Builder::new().stack_size(STACK_FOR_ANY_TERM).spawn_scoped(scope, || self.evaluate(file, budget))
+                .expect("a thread").join().expect("glow does not panic")
+        })
+    }
+
+    /// Evaluates a term file with at most `budget` steps. On a thread with a small stack a term
+    /// nested thousands deep needs [`Stores::evaluate_deep`].
+    pub fn evaluate(&mut self, file: &[u8], budget: u32) -> Answer {
+        let mut raw = [0u64; REPORT_LEN];
+        let status = evaluate_in(
+            file, budget, &mut self.tags, &mut self.args, &mut self.codes, &mut self.owns,
+            &mut self.nexts, &mut self.places, &mut self.renumber, &mut self.out_tags,
+            &mut self.out_args, &mut raw,
+        );
+        let report = Report {
+            beta: raw[2], subst: raw[3], enter: raw[4], leave_fun: raw[5], leave_inert: raw[6],
+            nodes: raw[7], cells: raw[8], names: raw[9], subst_allowance: raw[10], shift_allowance: raw[11],
+        };
+        let outcome = match status {
+            Status::Normal => {
+                let n = raw[1] as usize;
+                Outcome::Normal { term: Term { tags: self.out_tags[..n].to_vec(), args: self.out_args[..n].to_vec() } }
+            }
+            Status::Spent => Outcome::Spent,
+            Status::Refused => Outcome::Refused(Refusal::of(raw[0]).expect("a refusal from 8 to 13")),
+            Status::FileRefused => {
+                return Answer::FileRefused(FileRefusal::of(raw[0]).expect("a refusal from 1 to 7"))
+            }
+            Status::ReportTooShort => unreachable!("the report has its twelve elements"),
+        };
+        Answer::Ran { outcome, report }
+    }
+}
+
+/// The call as it is, on slices of any lengths and with the report as raw numbers.
+#[allow(clippy::too_many_arguments)]
+pub fn evaluate_in(
+    file: &[u8], budget: u32, tags: &mut [u8], args: &mut [u16], codes: &mut [u16], owns: &mut [u16],
+    nexts: &mut [u16], places: &mut [u16], renumber: &mut [u16], out_tags: &mut [u8],
+    out_args: &mut [u16], report: &mut [u64],
+) -> Status {
+    // SAFETY: every pointer comes from a slice live for the whole call and goes with that slice's
+    // length; the slices are borrowed exclusively, so none overlaps another.
+    let number = unsafe {
+        ffi::glow_evaluate(
+            file.as_ptr(), file.len(), budget,
+            tags.as_mut_ptr(), tags.len(), args.as_mut_ptr(), args.len(),
+            codes.as_mut_ptr(), codes.len(), owns.as_mut_ptr(), owns.len(),
+            nexts.as_mut_ptr(), nexts.len(), places.as_mut_ptr(), places.len(),
+            renumber.as_mut_ptr(), renumber.len(),
+            out_tags.as_mut_ptr(), out_tags.len(), out_args.as_mut_ptr(), out_args.len(),
+            report.as_mut_ptr(), report.len(),
+        )
+    };
+    Status::of(number)
+}

@@ -1,0 +1,173 @@
+//! One case: the second machine's answer, and the library's compared with it field by field and
+//! array by array, with sentinels before and after every lent slice.
+use crate::machine::{evaluate, Answer, Lengths};
+
+#[derive(Clone, Debug)]
+pub struct Case<'a> {
+    pub file: &'a [u8],
+    pub budget: u32,
+    pub lengths: Lengths,
+    /// what the stores hold before: 0 zeros, 1 all ones, 2 small numbers, else random from this seed
+    pub garbage: u64,
+    pub report_len: usize,
+}
+
+impl<'a> Case<'a> {
+    pub fn new(file: &'a [u8], budget: u32, lengths: Lengths) -> Case<'a> { Case { file, budget, lengths, garbage: 7, report_len: 12 } }
+    pub fn glow(file: &'a [u8]) -> Case<'a> { Case { garbage: 0, ..Case::new(file, crate::machine::GLOW_BUDGET, Lengths::glow()) } }
+    pub fn garbage(mut self, g: u64) -> Self { self.garbage = g; self }
+    /// The second machine's answer, after the library's has been compared with it. Panics on a difference.
+    pub fn check(&self) -> Answer {
+        let answer = evaluate(self.file, self.budget, &self.lengths);
+        self.check_against(&answer);
+        answer
+    }
+    pub fn check_against(&self, answer: &Answer) {
+        if let Err(why) = compare(self, answer) {
+            let shown: Vec<String> = self.file.iter().take(400).map(|b| format!("{b:02x}")).collect();
+            panic!("DISAGREEMENT: {why}\n budget {} lengths {:?} garbage {} report_len {}\n second implementation: {}\n file ({} bytes): {}",
+                self.budget, self.lengths, self.garbage, self.report_len, crate::machine::printed(answer), self.file.len(), shown.join(" "));
+        }
+    }
+}
+
+#[cfg(not(feature = "library"))]
+pub const LIBRARY: bool = false;
+#[cfg(feature = "library")]
+pub const LIBRARY: bool = true;
+
+#[cfg(not(feature = "library"))]
+fn compare(_: &Case, _: &Answer) -> Result<(), String> { Ok(()) }
+
+/// Things seen that the papers leave free or that a strict reading would forbid: counted, not failed.
+#[cfg(feature = "library")]
+pub static NOTES: std::sync::Mutex<std::collections::BTreeMap<String, u64>> = std::sync::Mutex::new(std::collections::BTreeMap::new());
+pub fn print_notes() {
+    #[cfg(feature = "library")]
+    for (what, count) in NOTES.lock().unwrap().iter() { println!("note: {what}: {count} times"); }
+}
+
+#[cfg(feature = "library")]
+pub use library::*;
+#[cfg(feature = "library")]
+mod library {
+    use super::*;
+    use crate::machine::Outcome;
+    use crate::prng::Prng;
+
+    const GUARD: usize = 8;
+
+    pub trait Number: Copy + PartialEq + std::fmt::Debug { fn of(n: u64) -> Self; }
+    impl Number for u8 { fn of(n: u64) -> u8 { n as u8 } }
+    impl Number for u16 { fn of(n: u64) -> u16 { n as u16 } }
+    impl Number for u64 { fn of(n: u64) -> u64 { n } }
+
+    /// A lent slice inside a longer array whose ends are watched.
+    pub struct Lent<T> { pub now: Vec<T>, pub before: Vec<T>, len: usize, name: &'static str }
+    impl<T: Number> Lent<T> {
+        pub fn new(name: &'static str, len: usize, garbage: u64, r: &mut Prng) -> Lent<T> {
+            let mut before: Vec<T> = match garbage {
+                0 => vec![T::of(0); len + 2 * GUARD],
+                1 => vec![T::of(u64::MAX); len + 2 * GUARD],
+                2 => (0..len + 2 * GUARD).map(|_| T::of(r.next() % 4)).collect(),
+                _ => { let mut x = r.next() | 1; (0..len + 2 * GUARD).map(|_| { x ^= x << 13; x ^= x >> 7; x ^= x << 17; T::of(x) }).collect() }
+            };
+            for k in 0..GUARD { before[k] = T::of(0xA5A5_A5A5_A5A5_A5A5); before[len + GUARD + k] = T::of(0x5A5A_5A5A_5A5A_5A5A); }
+            Lent { now: before.clone(), before, len, name }
+        }
+        pub fn slice(&mut self) -> &mut [T] { &mut self.now[GUARD..GUARD + self.len] }
+        pub fn held(&self) -> &[T] { &self.now[GUARD..GUARD + self.len] }
+        pub fn had(&self) -> &[T] { &self.before[GUARD..GUARD + self.len] }
+        pub fn ends(&self) -> Result<(), String> {
+            let n = GUARD + self.len;
+            if self.now[..GUARD] != self.before[..GUARD] { return Err(format!("{}: written before its start", self.name)); }
+            if self.now[n..] != self.before[n..] { return Err(format!("{}: written past its end", self.name)); }
+            Ok(())
+        }
+        pub fn unchanged_from(&self, from: usize) -> Result<(), String> {
+            let from = from.min(self.len);
+            match (from..self.len).find(|&k| self.held()[k] != self.had()[k]) {
+                None => Ok(()),
+                Some(k) => Err(format!("{}[{k}] changed from {:?} to {:?}", self.name, self.had()[k], self.held()[k])),
+            }
+        }
+    }
+
+    fn note(what: String) { *NOTES.lock().unwrap().entry(what).or_default() += 1; }
+
+    pub(super) fn compare(case: &Case, answer: &Answer) -> Result<(), String> {
+        let mut r = Prng(case.garbage);
+        let (l, g) = (&case.lengths, case.garbage);
+        let mut tags: Lent<u8> = Lent::new("tags", l.tags, g, &mut r);
+        let mut args: Lent<u16> = Lent::new("args", l.args, g, &mut r);
+        let mut codes: Lent<u16> = Lent::new("codes", l.codes, g, &mut r);
+        let mut owns: Lent<u16> = Lent::new("owns", l.owns, g, &mut r);
+        let mut nexts: Lent<u16> = Lent::new("nexts", l.nexts, g, &mut r);
+        let mut places: Lent<u16> = Lent::new("places", l.places, g, &mut r);
+        let mut renumber: Lent<u16> = Lent::new("renumber", l.renumber, g, &mut r);
+        // the output is told from what is written by random contents, unless zeros are asked for
+        let mut out_tags: Lent<u8> = Lent::new("out_tags", l.out_tags, if g == 0 { 0 } else { 9 }, &mut r);
+        let mut out_args: Lent<u16> = Lent::new("out_args", l.out_args, if g == 0 { 0 } else { 9 }, &mut r);
+        let mut report: Lent<u64> = Lent::new("report", case.report_len, 9, &mut r);
+        let file = case.file.to_vec();
+        let status = glow::evaluate_in(
+            case.file, case.budget, tags.slice(), args.slice(), codes.slice(), owns.slice(), nexts.slice(), places.slice(),
+            renumber.slice(), out_tags.slice(), out_args.slice(), report.slice(),
+        );
+        if file != case.file { return Err("the file was changed".into()); }
+        tags.ends()?; args.ends()?; codes.ends()?; owns.ends()?; nexts.ends()?; places.ends()?;
+        renumber.ends()?; out_tags.ends()?; out_args.ends()?; report.ends()?;
+        let stores_from = |n: usize, c: usize, p: usize| -> Result<(), String> {
+            tags.unchanged_from(n)?; args.unchanged_from(n)?; codes.unchanged_from(c)?; owns.unchanged_from(c)?;
+            nexts.unchanged_from(c)?; places.unchanged_from(p)
+        };
+        if case.report_len < 12 {
+            if status != glow::Status::ReportTooShort { return Err(format!("status {status:?} with a short report")); }
+            stores_from(0, 0, 0)?; renumber.unchanged_from(0)?; out_tags.unchanged_from(0)?; out_args.unchanged_from(0)?;
+            return report.unchanged_from(0);
+        }
+        let run = match answer {
+            Answer::FileRefused(n) => {
+                if status != glow::Status::FileRefused { return Err(format!("status {status:?}, not the file's refusal")); }
+                if report.held()[0] != u64::from(*n) { return Err(format!("refusal {} not {n}", report.held()[0])); }
+                report.unchanged_from(1)?;
+                stores_from(0, 0, 0)?; renumber.unchanged_from(0)?; out_tags.unchanged_from(0)?;
+                return out_args.unchanged_from(0);
+            }
+            Answer::Ran(run) => run,
+        };
+        let (want, refusal, written) = match &run.outcome {
+            Outcome::Normal(t) => (glow::Status::Normal, 0, t.tags.len()),
+            Outcome::Spent => (glow::Status::Spent, 0, 0),
+            Outcome::Refused(n) => (glow::Status::Refused, u64::from(*n), 0),
+        };
+        let (c, s) = (&run.counts, &run.figures);
+        let expected = [refusal, written as u64, c.beta, c.subst, c.enter, c.leave_fun, c.leave_inert, s.nodes, s.cells, s.names, run.subst_allowance, run.shift_allowance];
+        if status != want || report.held()[..12] != expected {
+            return Err(format!("library {status:?} {:?}, second implementation {want:?} {expected:?}", &report.held()[..12]));
+        }
+        report.unchanged_from(12)?;
+        if let Outcome::Normal(t) = &run.outcome {
+            if out_tags.held()[..written] != t.tags[..] || out_args.held()[..written] != t.args[..] {
+                return Err(format!("library wrote {}", crate::flat::text(&out_tags.held()[..written].iter().map(|t| t % 3).collect::<Vec<_>>(), &out_args.held()[..written])));
+            }
+        }
+        out_tags.unchanged_from(written)?;
+        out_args.unchanged_from(written)?;
+        // "The renumber store is used only while the result is written."
+        if renumber.unchanged_from(0).is_err() {
+            match run.outcome {
+                Outcome::Normal(_) => {}
+                Outcome::Refused(12) => note("renumber store changed at refusal 12".into()),
+                _ => return Err(format!("renumber store changed at {:?}", run.outcome)),
+            }
+        }
+        // What a run leaves in the stores it used is free; past what a store counts nothing is used.
+        if stores_from(l.nodes() as usize, l.cells() as usize, l.names() as usize).is_err() { note("a store changed past the length that counts".into()); }
+        if s.nodes == 0 {
+            if stores_from(0, 0, 0).is_err() { note("stores changed at a loading refusal".into()); }
+        } else if stores_from(s.nodes as usize, s.cells as usize, s.names as usize).is_err() { note("a store changed past what the figures say was taken".into()); }
+        if renumber.unchanged_from(s.names as usize).is_err() { note("renumber store changed past the names in use".into()); }
+        Ok(())
+    }
+}

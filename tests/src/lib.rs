@@ -1,0 +1,13 @@
+//! A second implementation of the papers (source document 000 and 01), written separately:
+//! the calculus by plain substitution on trees, the machine by the five rules on ordinary
+//! data structures, and the comparison of the library with them.
+pub mod calculus;
+pub mod case;
+pub mod enumerate;
+pub mod families;
+pub mod file;
+pub mod flat;
+pub mod machine;
+pub mod painted;
+pub mod prng;
+pub mod random;

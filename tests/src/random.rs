@@ -1,0 +1,170 @@
+//! Random terms, random damage to files, random lengths and budgets around what is needed.
+use crate::families::*;
+use crate::flat::*;
+use crate::machine::{Answer, Lengths, Outcome};
+use crate::prng::Prng;
+
+const BOUND: u32 = 1 << 20;
+
+/// A random term of about n nodes below `depth` binders.
+fn some_term(r: &mut Prng, f: usize, n: usize, depth: usize, out: &mut Flat) {
+    if n <= 1 {
+        if depth > 0 && (f == 0 || !r.one_in(4)) {
+            // binders near are likelier
+            let back = if r.one_in(2) { 0 } else { r.below(depth) };
+            out.push(F::V(BOUND + (depth - 1 - back) as u32));
+        } else if f > 0 {
+            out.push(F::V(r.below(f) as u32));
+        } else {
+            out.extend([F::L(BOUND + depth as u32), F::V(BOUND + depth as u32)]);
+        }
+        return;
+    }
+    match r.below(10) {
+        0 | 1 | 2 => { out.push(F::L(BOUND + depth as u32)); some_term(r, f, n - 1, depth + 1, out); }
+        3 | 4 if n >= 4 => {
+            // a redex
+            out.push(F::A);
+            out.push(F::L(BOUND + depth as u32));
+            let left = r.between(1, n - 3);
+            some_term(r, f, left, depth + 1, out);
+            some_term(r, f, n - 2 - left, depth, out);
+        }
+        _ if n >= 3 => {
+            out.push(F::A);
+            let left = r.between(1, n - 2);
+            some_term(r, f, left, depth, out);
+            some_term(r, f, n - 1 - left, depth, out);
+        }
+        _ => { out.push(F::L(BOUND + depth as u32)); some_term(r, f, n - 1, depth + 1, out); }
+    }
+}
+
+fn piece(r: &mut Prng, f: usize) -> Flat {
+    match r.below(9) {
+        0 => id(),
+        1 => delta(),
+        2 => church(r.below(4)),
+        3 => l(BOUND, l(BOUND + 1, v(BOUND))),
+        4 => successor(),
+        5 => power(),
+        6 if f > 0 => v(r.below(f) as u32),
+        7 => l(BOUND, l(BOUND + 1, l(BOUND + 2, apply(v(BOUND), [v(BOUND + 2), a(v(BOUND + 1), v(BOUND + 2))])))),
+        _ => { let mut t = vec![]; let n = r.between(1, 9); some_term(r, f, n, 0, &mut t); t }
+    }
+}
+
+/// A random term with f free names, as a term.
+pub fn term(r: &mut Prng) -> (usize, Flat) {
+    let f = match r.below(8) { 0 => 0, 1 | 2 => 1, 3 | 4 => 2, 5 => 3, 6 => r.below(40), _ => [16_384, 1000, 16_383, 300][r.below(4)] };
+    let mut out = vec![];
+    match r.below(4) {
+        0 => {
+            // an application of known pieces
+            let mut parts: Vec<Flat> = (0..r.between(2, 6)).map(|_| piece(r, f)).collect();
+            while parts.len() > 1 {
+                let k = r.below(parts.len() - 1);
+                let right = parts.remove(k + 1);
+                let left = std::mem::take(&mut parts[k]);
+                parts[k] = a(left, right);
+            }
+            out = parts.pop().unwrap();
+        }
+        1 => { let n = r.between(1, 12); some_term(r, f, n, 0, &mut out); }
+        2 => { let n = r.between(10, 60); some_term(r, f, n, 0, &mut out); }
+        _ => { let n = if r.one_in(50) { r.between(100, 3000) } else { r.between(5, 30) }; some_term(r, f, n, 0, &mut out); }
+    }
+    (f, out)
+}
+
+/// Damage of many kinds to the bytes of a file.
+pub fn damage(r: &mut Prng, bytes: &mut Vec<u8>) {
+    for _ in 0..r.between(1, 2) {
+        let n = if bytes.len() >= 4 { bytes[2] as usize + 256 * bytes[3] as usize } else { 0 };
+        let sound = n > 0 && bytes.len() == 4 + 3 * n;
+        match r.below(14) {
+            0 => { let k = r.below(bytes.len() + 1); bytes.truncate(k); }
+            1 => { for _ in 0..r.between(1, 4) { bytes.push(r.next() as u8); } }
+            2 if !bytes.is_empty() => { let k = r.below(bytes.len()); bytes[k] = r.next() as u8; }
+            3 if !bytes.is_empty() => { let k = r.below(bytes.len()); bytes[k] ^= 1 << r.below(8); }
+            4 if bytes.len() >= 4 => { let k = r.below(4); bytes[k] = r.next() as u8; }
+            5 if bytes.len() >= 4 => { bytes.truncate(r.below(5)); }
+            6 if sound => { let k = r.below(n); bytes[4 + k] = r.below(5) as u8; }
+            7 | 8 | 9 | 10 if sound => {
+                // an argument up or down a little, of a node of a chosen tag if there is one
+                let tag = r.below(3) as u8;
+                let at: Vec<usize> = (0..n).filter(|&k| bytes[4 + k] == tag).collect();
+                if at.is_empty() { continue; }
+                let p = 4 + n + 2 * at[r.below(at.len())];
+                let old = u16::from_le_bytes([bytes[p], bytes[p + 1]]);
+                let new = match r.below(5) { 0 => old.wrapping_add(1), 1 => old.wrapping_sub(1), 2 => old.wrapping_add(r.below(5) as u16), 3 => r.below(2 * n + 2) as u16, _ => r.next() as u16 };
+                bytes[p..p + 2].copy_from_slice(&new.to_le_bytes());
+            }
+            11 if sound && n > 1 => { let (p, q) = (r.below(n), r.below(n)); bytes.swap(4 + p, 4 + q); }
+            12 if bytes.len() >= 2 => { // f moved by one: binders no longer in place, or a free name no longer free
+                let f = u16::from_le_bytes([bytes[0], bytes[1]]);
+                let g = if r.one_in(2) { f.wrapping_add(1) } else { f.wrapping_sub(1) };
+                bytes[..2].copy_from_slice(&g.to_le_bytes());
+            }
+            13 if sound && n > 1 => {
+                let (p, q) = (4 + n + 2 * r.below(n), 4 + n + 2 * r.below(n));
+                bytes.swap(p, q);
+                bytes.swap(p + 1, q + 1);
+            }
+            _ => {}
+        }
+    }
+}
+
+fn near(r: &mut Prng, need: u64, ample: usize) -> usize {
+    let need = need.min(40_000) as usize;
+    match r.below(10) {
+        0 => need.saturating_sub(1),
+        1 | 2 => need,
+        3 => need + 1,
+        4 => need.saturating_sub(r.below(6)),
+        5 => if need == 0 { 0 } else { r.below(need) },
+        _ => need + r.below(ample),
+    }
+}
+
+/// Lengths around what `full`, the answer with the largest stores, shows to be needed. Mostly one
+/// or two stores are near their need and the others ample.
+pub fn lengths(r: &mut Prng, full: &Answer) -> Lengths {
+    let Answer::Ran(run) = full else {
+        let s = |r: &mut Prng| r.below(40);
+        return Lengths { tags: s(r), args: s(r), codes: s(r), owns: s(r), nexts: s(r), places: s(r), renumber: s(r), out_tags: s(r), out_args: s(r) };
+    };
+    let written = match &run.outcome { Outcome::Normal(t) => t.tags.len() as u64, _ => 20 };
+    let g = run.figures;
+    let tight = r.below(7); // which store is near its need: 0 nodes, 1 cells, 2 names, 3 renumber, 4 output, 5 all, 6 none
+    let mut pick = |which: usize, need: u64| {
+        if tight == which || tight == 5 { near(r, need, 8) } else { need.min(40_000) as usize + r.below(12) }
+    };
+    let (nodes, cells, names, renumber, output) = (pick(0, g.nodes), pick(1, g.cells), pick(2, g.names), pick(3, g.names), pick(4, written));
+    let mut all = Lengths::of(nodes, cells, names, renumber, output);
+    if r.one_in(2) {
+        // arrays of one store of different lengths: the shortest counts
+        let longer = |r: &mut Prng, x: &mut usize| *x += r.below(20);
+        match r.below(2) { 0 => longer(r, &mut all.tags), _ => longer(r, &mut all.args) }
+        match r.below(3) { 0 => { longer(r, &mut all.codes); longer(r, &mut all.owns) } 1 => { longer(r, &mut all.owns); longer(r, &mut all.nexts) } _ => { longer(r, &mut all.nexts); longer(r, &mut all.codes) } }
+        match r.below(2) { 0 => longer(r, &mut all.out_tags), _ => longer(r, &mut all.out_args) }
+    }
+    all
+}
+
+pub fn budget(r: &mut Prng, full: &Answer, most: u32) -> u32 {
+    let Answer::Ran(run) = full else { return r.next() as u32 };
+    let total = run.counts.steps() as u32;
+    let ended = !matches!(run.outcome, Outcome::Spent);
+    match r.below(12) {
+        0 => 0,
+        1 => total.saturating_sub(1),
+        2 => total,
+        3 if ended => total + 1,
+        4 => r.below(total as usize + 1) as u32,
+        5 | 6 if ended => u32::MAX,
+        7 if ended => 1_000_000,
+        _ => most,
+    }
+}

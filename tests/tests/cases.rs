@@ -1,0 +1,143 @@
+//! Every worked case of 01, the table's examples, and the traps' cases.
+use glow_tests::case::{print_notes, Case};
+use glow_tests::file::check;
+use glow_tests::flat::from_text;
+use glow_tests::machine::*;
+
+fn counts(beta: u64, subst: u64, enter: u64, leave_fun: u64, leave_inert: u64) -> Counts { Counts { beta, subst, enter, leave_fun, leave_inert } }
+fn figures(nodes: u64, cells: u64, names: u64) -> Figures { Figures { nodes, cells, names } }
+
+const C: &str = "a2 l1 v1 v0";
+const D: &str = "a2 l0 v0 l1 v1";
+const FF: &str = "a6 l1 a1 v1 a1 v0 v1 l2 v2";
+const J: &str = "a4 l0 a1 v0 v0 l1 a1 v1 v1";
+
+fn glow(f: usize, text: &str) -> Answer {
+    let file = from_text(f, text).file();
+    for g in [0, 1, 2, 99] { Case::glow(&file).garbage(g).check(); }
+    Case::glow(&file).check()
+}
+fn with(f: usize, text: &str, budget: u32, lengths: Lengths) -> Answer {
+    let file = from_text(f, text).file();
+    for g in [0, 1, 2, 99] { Case::new(&file, budget, lengths).garbage(g).check(); }
+    Case::new(&file, budget, lengths).check()
+}
+fn normal(f: usize, text: &str) -> Outcome { Outcome::Normal(from_text(f, text)) }
+
+#[test]
+fn a_to_j() {
+    let a = glow(1, "v0");
+    assert_eq!((&a.run().outcome, a.run().counts), (&normal(1, "v0"), counts(0, 0, 0, 0, 0)));
+    let b = glow(0, "l0 v0");
+    assert_eq!((&b.run().outcome, b.run().counts), (&normal(0, "l0 v0"), counts(0, 0, 0, 0, 0)));
+    let c = glow(1, C);
+    assert_eq!((&c.run().outcome, c.run().counts, c.run().figures), (&normal(1, "v0"), counts(1, 0, 1, 0, 1), figures(4, 1, 2)));
+    let d = glow(0, D);
+    assert_eq!((&d.run().outcome, d.run().counts, d.run().figures), (&normal(0, "l0 v0"), counts(1, 1, 1, 1, 0), figures(7, 1, 3)));
+    let e = glow(1, "a1 v0 v0");
+    assert_eq!((&e.run().outcome, e.run().counts), (&normal(1, "a1 v0 v0"), counts(0, 0, 1, 0, 1)));
+    let f = glow(1, FF);
+    assert_eq!(printed(&f), "normal\nbeta 2\nsubst 2 of 12\nenter 3\nleave 2 1\nshift 6 of 18\nstore 13 3 5\nterm a1 v0 l1 v1\n");
+    assert_eq!(from_text(1, FF).file().len(), 31);
+    let g = with(1, C, 3, Lengths::glow());
+    assert_eq!(g.run().outcome, normal(1, "v0"));
+    let h = with(1, C, 2, Lengths::glow());
+    assert_eq!((&h.run().outcome, h.run().counts), (&Outcome::Spent, counts(0, 0, 1, 0, 1)));
+    let i = with(0, D, GLOW_BUDGET, Lengths { tags: 6, args: 6, ..Lengths::glow() });
+    assert_eq!((&i.run().outcome, i.run().counts.beta, i.run().counts.subst), (&Outcome::Refused(9), 1, 0));
+    let j = with(0, J, 10, Lengths::glow());
+    assert_eq!((&j.run().outcome, j.run().counts, j.run().figures), (&Outcome::Spent, counts(2, 3, 3, 2, 0), figures(21, 3, 5)));
+    print_notes();
+}
+
+#[test]
+fn table_examples() {
+    let files: [(&[u8], u8); 7] = [
+        (&[1, 0, 1], 1), (&[0, 0, 0, 0], 2), (&[1, 0, 1, 0, 0], 3), (&[1, 0, 1, 0, 3, 0, 0], 4),
+        (&[1, 0, 1, 0, 2, 1, 0], 5), (&[0, 0, 2, 0, 1, 0, 1, 0, 1, 0], 6), (&[0, 0, 1, 0, 0, 0, 0], 7),
+    ];
+    for (file, n) in files {
+        assert_eq!(Case::glow(file).check(), Answer::FileRefused(n));
+        for report_len in 0..15 { Case { report_len, ..Case::new(file, 5, Lengths::glow()) }.check(); }
+        Case::new(file, 0, Lengths::of(0, 0, 0, 0, 0)).check();
+    }
+    let refused = |a: Answer, n: u8| assert_eq!(a.run().outcome, Outcome::Refused(n), "refusal {n}");
+    refused(with(1, C, GLOW_BUDGET, Lengths { codes: 0, ..Lengths::glow() }), 8);
+    refused(with(1, C, GLOW_BUDGET, Lengths { owns: 0, ..Lengths::glow() }), 8);
+    refused(with(1, C, GLOW_BUDGET, Lengths { nexts: 0, ..Lengths::glow() }), 8);
+    refused(with(0, D, GLOW_BUDGET, Lengths { tags: 6, ..Lengths::glow() }), 9);
+    refused(with(0, D, GLOW_BUDGET, Lengths { args: 6, ..Lengths::glow() }), 9);
+    refused(with(0, D, GLOW_BUDGET, Lengths { places: 2, ..Lengths::glow() }), 10);
+    refused(with(0, D, GLOW_BUDGET, Lengths { renumber: 2, ..Lengths::glow() }), 11);
+    refused(with(1, FF, GLOW_BUDGET, Lengths { out_tags: 3, ..Lengths::glow() }), 12);
+    refused(with(1, FF, GLOW_BUDGET, Lengths { out_args: 3, ..Lengths::glow() }), 12);
+    refused(with(1, FF, GLOW_BUDGET, Lengths { out_args: 3, renumber: 4, ..Lengths::glow() }), 11);
+    // loading: 9 before 10 before the budget; no step and figures 0, with the allowances of b = 0
+    for budget in [0, 7] {
+        let nine = with(1, FF, budget, Lengths { tags: 8, places: 0, ..Lengths::glow() });
+        assert_eq!((&nine.run().outcome, nine.run().figures, nine.run().subst_allowance, nine.run().shift_allowance), (&Outcome::Refused(9), figures(0, 0, 0), 4, 6));
+        let ten = with(1, FF, budget, Lengths { places: 2, ..Lengths::glow() });
+        assert_eq!((&ten.run().outcome, ten.run().figures, ten.run().subst_allowance), (&Outcome::Refused(10), figures(0, 0, 0), 4));
+    }
+    // every store just so, and one less, at case f
+    let just = Lengths::of(13, 3, 5, 5, 4);
+    assert!(matches!(with(1, FF, 10, just).run().outcome, Outcome::Normal(_)));
+    assert_eq!(with(1, FF, 9, just).run().outcome, Outcome::Spent);
+    refused(with(1, FF, 10, Lengths { nexts: 2, ..just }), 8);
+    refused(with(1, FF, 10, Lengths { args: 12, ..just }), 9);
+    refused(with(1, FF, 10, Lengths { places: 4, ..just }), 10);
+    refused(with(1, FF, 10, Lengths { renumber: 4, ..just }), 11);
+    refused(with(1, FF, 10, Lengths { out_tags: 3, ..just }), 12);
+    print_notes();
+}
+
+/// Files that several refusals fit: the first counts.
+#[test]
+fn order_of_the_file_refusals() {
+    let of = |b: &[u8]| { Case::glow(b).check(); check(b).err() };
+    assert_eq!(of(&[]), Some(1));
+    assert_eq!(of(&[1, 0xff, 0, 0]), Some(2)); // both limits
+    assert_eq!(of(&[0x01, 0x40, 1, 0, 9]), Some(2)); // f = 16385 before the length
+    assert_eq!(of(&[0x00, 0x40, 1, 0, 0, 0, 0]), None); // f = 16384
+    assert_eq!(of(&[0x00, 0x40, 1, 0, 0, 0xff, 0x3f]), None);
+    assert_eq!(of(&[0x00, 0x40, 1, 0, 0, 0x00, 0x40]), Some(7));
+    assert_eq!(of(&[0, 0, 1, 0x40, 9]), Some(2)); // n = 16385
+    assert_eq!(of(&[1, 0, 1, 0, 9, 0, 0, 0]), Some(3)); // length before tag
+    assert_eq!(of(&[1, 0, 2, 0, 2, 9, 0, 0, 0, 0]), Some(4)); // tag before shape
+    assert_eq!(of(&[1, 0, 2, 0, 0, 0, 9, 0, 9, 0]), Some(5)); // two terms, unbound names
+    assert_eq!(of(&[0, 0, 1, 0, 1, 5, 0]), Some(5)); // shape before binder
+    assert_eq!(of(&[0, 0, 2, 0, 1, 0, 1, 0, 7, 0]), Some(6)); // binder before unbound
+    // the bound name of a sibling
+    assert_eq!(of(&from_text(0, "a2 l0 v0 l1 v0").file()), Some(7));
+    assert_eq!(of(&from_text(0, "a2 l0 v1 l1 v1").file()), Some(7));
+    assert_eq!(of(&from_text(1, "a1 v0 v0").file()), None);
+    assert_eq!(of(&from_text(1, "a2 v0 v0").file()), Some(5));
+    assert_eq!(of(&from_text(1, "a0 v0 v0").file()), Some(5));
+    assert_eq!(of(&from_text(1, "a1 v0").file()), Some(5));
+    assert_eq!(of(&from_text(1, "a65535 v0 v0").file()), Some(5));
+    print_notes();
+}
+
+/// Lengths that would look sound if only 16 of their bits were read.
+#[test]
+fn lengths_beyond_sixteen_bits() {
+    for text in [C, D, FF] {
+        let f = if text == D { 0 } else { 1 };
+        let sound = from_text(f, text).file();
+        for extra in [1, 3, 65_535, 65_536, 65_537, 131_072, 3 * 65_536, 1 << 24] {
+            let mut long = sound.clone();
+            long.resize(sound.len() + extra, 0);
+            assert_eq!(Case::new(&long, 9, Lengths::of(50, 50, 50, 50, 50)).check(), Answer::FileRefused(3));
+        }
+        let want = with(f, text, 50, Lengths::glow());
+        for k in [32_767, 32_768, 32_769, 65_535, 65_536, 65_537, 65_538, 98_304, 131_072, 131_073] {
+            assert_eq!(with(f, text, 50, Lengths::of(k, k, k, k, k)), want);
+            let just = Lengths::of(13, 3, 5, 5, 4);
+            for lengths in [Lengths { tags: k, ..just }, Lengths { args: k, ..just }, Lengths { codes: k, ..just }, Lengths { owns: k, ..just }, Lengths { nexts: k, ..just },
+                Lengths { places: k, ..just }, Lengths { renumber: k, ..just }, Lengths { out_tags: k, ..just }, Lengths { out_args: k, ..just }] {
+                assert_eq!(with(f, text, 50, lengths), want);
+            }
+        }
+        for report_len in [0, 1, 11, 12, 13, 65_536, 65_540] { Case { report_len, ..Case::new(&sound, 50, Lengths::glow()) }.check(); }
+    }
+}

@@ -1,0 +1,95 @@
+//! Demand 3 watched from outside: for small terms every budget from 0 to the end. Counts and
+//! figures against the second machine's; its state, decoded, against the calculus's term after as
+//! many steps as there were betas; both bounds at each.
+use glow_tests::calculus;
+use glow_tests::case::{print_notes, Case};
+use glow_tests::enumerate::All;
+use glow_tests::families::small_members;
+use glow_tests::file::{check, MOST};
+use glow_tests::flat::{canonical, Flat};
+use glow_tests::machine::*;
+use glow_tests::painted::with_large_stack;
+use glow_tests::prng::Prng;
+use glow_tests::random;
+
+/// Gives how many states were compared.
+fn watch(f: usize, t: &Flat, budget: u32, most_nodes: u64, with_steps: bool) -> u64 {
+    let file = canonical(f, t).file();
+    let parsed = check(&file).unwrap();
+    let lengths = Lengths::of(2000, 600, 1000, 1000, 600);
+    let mut term = calculus::from_file(&parsed);
+    let mut shown = calculus::to_canonical(f, &term);
+    let (mut beta, mut too_large, mut states) = (0u64, false, 0u64);
+    let mut prefixes: Vec<(Counts, Figures, u64, u64)> = Vec::new();
+    let answer = evaluate_watched(&file, budget, &lengths, |m| {
+        let (subst_allowance, shift_allowance) = m.allowances();
+        assert!(m.counts.subst <= subst_allowance, "the bound of subst");
+        assert!(m.counts.shift() <= shift_allowance, "the bound of shift");
+        assert!(m.counts.leave_fun + m.counts.leave_inert <= m.counts.enter);
+        assert_eq!(m.figures.cells, m.counts.enter);
+        assert!(!m.odd_entry(), "refusal 13, of which no example is known");
+        prefixes.push((m.counts, m.figures, subst_allowance, shift_allowance));
+        if too_large { return; }
+        while beta < m.counts.beta {
+            if with_steps { assert_eq!(calculus::all_steps(&term).len(), 1); }
+            term = calculus::step(&term).expect("a step for each beta");
+            beta += 1;
+            if calculus::size(&term) > most_nodes { too_large = true; return; }
+            shown = calculus::to_canonical(f, &term);
+        }
+        assert_eq!(m.stands_for(), shown, "after {} betas of {}", beta, canonical(f, t).text());
+        if m.fits().is_none() { assert!(calculus::all_steps(&term).is_empty() && calculus::is_fireball(&term)); }
+        states += 1;
+    });
+    // the library at every budget: what it must say is known from the prefixes
+    let last = prefixes.len() - 1;
+    for (k, &(counts, figures, subst_allowance, shift_allowance)) in prefixes.iter().enumerate() {
+        let want = if k == last { answer.clone() } else { Answer::Ran(Run { outcome: Outcome::Spent, counts, figures, subst_allowance, shift_allowance }) };
+        Case::new(&file, k as u32, lengths).garbage(k as u64).check_against(&want);
+    }
+    if budget as usize > last { Case::new(&file, last as u32 + 1, lengths).check_against(&answer); }
+    // the sizes are within limits of both
+    assert!(parsed.tags.len() <= MOST);
+    states
+}
+
+#[test]
+fn all_small_terms() {
+    with_large_stack(|| {
+        let mut all = All::default();
+        let (mut terms, mut states) = (0u64, 0u64);
+        for (f, most) in [(0, 10), (1, 8), (2, 8)] {
+            for n in 1..=most {
+                for t in all.terms(f, n).iter() { terms += 1; states += watch(f, t, 60, 2000, true); }
+            }
+        }
+        println!("{terms} small terms, {states} states decoded and compared with the calculus, the library at every budget");
+        print_notes();
+    });
+}
+
+#[test]
+fn families() {
+    with_large_stack(|| {
+        let mut states = 0;
+        for (_, f, t) in small_members() { states += watch(f, &t, 600, 3000, true); }
+        println!("families: {states} states");
+        print_notes();
+    });
+}
+
+#[test]
+fn random_terms() {
+    with_large_stack(|| {
+        let (mut terms, mut states) = (0u64, 0u64);
+        let mut r = Prng(3);
+        while terms < 6000 {
+            let (f, t) = random::term(&mut r);
+            if t.len() > 80 || f > 500 { continue; }
+            terms += 1;
+            states += watch(f, &t, 120, 1500, false);
+        }
+        println!("{terms} random terms, {states} states");
+        print_notes();
+    });
+}
