@@ -83,7 +83,7 @@ fn with_arrays(name: &[u8], numbers: &[u8], file: &[u8]) {
         &mut out_tags,
         &mut out_args,
     );
-    lend_nodes(
+    lend_first(
         name,
         numbers,
         file,
@@ -98,7 +98,7 @@ fn with_arrays(name: &[u8], numbers: &[u8], file: &[u8]) {
         &mut out_args,
     );
     io::write_all(STDOUT_FILENO, b"again, ");
-    lend_nodes(
+    lend_first(
         name,
         numbers,
         file,
@@ -114,8 +114,8 @@ fn with_arrays(name: &[u8], numbers: &[u8], file: &[u8]) {
     );
 }
 
-// Lends parts of the arrays, of the row's lengths: here of the node store.
-fn lend_nodes(
+// Lends parts of the arrays, of the row's lengths: here of the node store and the cell store.
+fn lend_first(
     name: &[u8],
     numbers: &[u8],
     file: &[u8],
@@ -131,37 +131,6 @@ fn lend_nodes(
 ) {
     let a = length_in(numbers, 2, tags.len());
     let b = length_in(numbers, 3, args.len());
-    lend_cells(
-        name,
-        numbers,
-        file,
-        &mut tags[0..a],
-        &mut args[0..b],
-        codes,
-        owns,
-        nexts,
-        places,
-        renumber,
-        out_tags,
-        out_args,
-    );
-}
-
-// The same of the cell store.
-fn lend_cells(
-    name: &[u8],
-    numbers: &[u8],
-    file: &[u8],
-    tags: &mut [u8],
-    args: &mut [u16],
-    codes: &mut [u16],
-    owns: &mut [u16],
-    nexts: &mut [u16],
-    places: &mut [u16],
-    renumber: &mut [u16],
-    out_tags: &mut [u8],
-    out_args: &mut [u16],
-) {
     let c = length_in(numbers, 4, codes.len());
     let d = length_in(numbers, 5, owns.len());
     let e = length_in(numbers, 6, nexts.len());
@@ -169,8 +138,8 @@ fn lend_cells(
         name,
         numbers,
         file,
-        tags,
-        args,
+        &mut tags[0..a],
+        &mut args[0..b],
         &mut codes[0..c],
         &mut owns[0..d],
         &mut nexts[0..e],
@@ -181,7 +150,7 @@ fn lend_cells(
     );
 }
 
-// The same of the name store and the renumber store.
+// The same of the name store, the renumber store and the output.
 fn lend_rest(
     name: &[u8],
     numbers: &[u8],
@@ -198,37 +167,6 @@ fn lend_rest(
 ) {
     let g = length_in(numbers, 7, places.len());
     let h = length_in(numbers, 8, renumber.len());
-    lend_output(
-        name,
-        numbers,
-        file,
-        tags,
-        args,
-        codes,
-        owns,
-        nexts,
-        &mut places[0..g],
-        &mut renumber[0..h],
-        out_tags,
-        out_args,
-    );
-}
-
-// The same of the output.
-fn lend_output(
-    name: &[u8],
-    numbers: &[u8],
-    file: &[u8],
-    tags: &mut [u8],
-    args: &mut [u16],
-    codes: &mut [u16],
-    owns: &mut [u16],
-    nexts: &mut [u16],
-    places: &mut [u16],
-    renumber: &mut [u16],
-    out_tags: &mut [u8],
-    out_args: &mut [u16],
-) {
     let i = length_in(numbers, 9, out_tags.len());
     let j = length_in(numbers, 10, out_args.len());
     call(
@@ -240,8 +178,8 @@ fn lend_output(
         codes,
         owns,
         nexts,
-        places,
-        renumber,
+        &mut places[0..g],
+        &mut renumber[0..h],
         &mut out_tags[0..i],
         &mut out_args[0..j],
     );
