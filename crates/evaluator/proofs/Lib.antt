@@ -22,10 +22,12 @@ pub mod Drafts
 pub mod Drawing
 pub mod Growing
 pub mod Applying
+pub mod Entering
 pub mod Treading
 pub mod Unstacking
 pub mod Owning
 pub mod Fitting
+pub mod Weighing
 pub mod Counts
 pub mod Finishing
 pub mod Calls

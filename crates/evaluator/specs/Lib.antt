@@ -8,5 +8,6 @@ pub mod Calling
 pub mod Output
 pub mod Sizes
 pub mod Jobs
+pub mod Weights
 pub mod Final
 pub mod Promise
