@@ -1,18 +1,30 @@
-//! Steps per second of the library through its wrapper, and of the plain array machine.
+//! The library through its wrapper, beside the plain array machine: steps per second, or instructions.
 //!
 //! Stores are the largest (32,768 nodes, cells and names; renumber 32,768; output 16,384), made once
 //! and NOT cleared between calls, the same for both. A call is load, run and, at normal, writing the
-//! result. "whole" is such a call; "steps" is the same call with one step less of budget, so that it
-//! ends spent and writes no result. Each figure is the best of five rounds.
+//! result. "all" is such a call; "run" is the same call with one step less of budget, so that it
+//! ends spent and writes no result. A time is the best of five rounds.
 //!
 //!     cargo run --release -p glow-bench            (--no-default-features: the plain machine alone)
+//!     cargo run --release -p glow-bench -- --instructions
+//!     bench/run.sh                                 both, kept in bench/last.txt
+mod instructions;
+
 use glow_tests::families::*;
 use glow_tests::flat::*;
 use std::time::Instant;
 
 const ROUND: f64 = 0.04;
+/// A budget that no case uses up.
+const WHOLE: u32 = 1_000_000;
 
 struct Arrays { tags: Vec<u8>, args: Vec<u16>, codes: Vec<u16>, owns: Vec<u16>, nexts: Vec<u16>, places: Vec<u16>, renumber: Vec<u16>, out_tags: Vec<u8>, out_args: Vec<u16> }
+
+impl Arrays {
+    fn largest() -> Arrays {
+        Arrays { tags: vec![0; 32_768], args: vec![0; 32_768], codes: vec![0; 32_768], owns: vec![0; 32_768], nexts: vec![0; 32_768], places: vec![0; 32_768], renumber: vec![0; 32_768], out_tags: vec![0; 16_384], out_args: vec![0; 16_384] }
+    }
+}
 
 fn plain_call(s: &mut Arrays, file: &[u8], budget: u32) -> [u64; 12] {
     let mut report = [0; 12];
@@ -30,6 +42,49 @@ fn library_call(s: &mut Arrays, file: &[u8], budget: u32) -> [u64; 12] {
 #[cfg(not(feature = "library"))]
 fn library_call(_: &mut Arrays, _: &[u8], _: u32) -> [u64; 12] { [0; 12] }
 
+/// Terms with `free` free names, one for each size; a term that stands alone has one size, which says nothing.
+struct Family { name: &'static str, free: usize, sizes: &'static [usize], make: fn(usize) -> Flat }
+
+fn families() -> Vec<Family> {
+    fn family(name: &'static str, free: usize, sizes: &'static [usize], make: fn(usize) -> Flat) -> Family { Family { name, free, sizes, make } }
+    vec![
+        family("t_n of proposition 3", 1, &[13, 100, 200, 400, 800, 1600, 3276], open_explosion),
+        family("u_n of (4)", 1, &[8, 16, 32, 64, 125], u4),
+        family("s_n I of proposition 7", 0, &[5, 11, 100, 500, 1000, 2000], s7),
+        family("s_n i of section 10", 2, &[2, 4, 6, 8, 9], |n| s10(n, &v(W))),
+        family("2 ^ n shown", 2, &[2, 4, 6, 8, 10], |n| shown(apply(power(), [church(2), church(n)]))),
+        family("n * n shown", 2, &[5, 10, 20, 40, 80], |n| shown(apply(product(), [church(n), church(n)]))),
+        family("renamings", 1, &[500, 1000, 2000, 4000], renamings),
+        family("copying: y d d, d of n binders", 1, &[500, 1000, 2000, 5000], |n| a(l(9_500_000, apply(v(Y), [v(9_500_000), v(9_500_000)])), nested_abstractions(n))),
+        family("copying: 30 copies of n arguments", 1, &[60, 120, 240, 480], |n| copied_chain(&v(Y), n, 30, v(Y))),
+        family("omega to the end of the store", 0, &[1], |_| omega()),
+        family("omega 3 to the end of the store", 0, &[1], |_| omega3()),
+        family("fixed point to the end of the store", 1, &[1], |_| z_loop()),
+        family("nothing to do: 16383 abstractions", 0, &[16_383], nested_abstractions),
+        family("only shifting: 8191 to the left", 1, &[8191], |n| left_nested(n, Y)),
+        family("only shifting: 8191 to the right", 1, &[8191], |n| right_nested(n, Y)),
+    ]
+}
+
+/// A file to measure, with what a whole call on it gives.
+struct Case { name: String, file: Vec<u8>, nodes: usize, steps: u64, taken: u64, end: String }
+
+impl Case {
+    /// Runs the file once on both sides, which must report the same.
+    fn new(s: &mut Arrays, family: &Family, n: usize) -> Case {
+        let term = (family.make)(n);
+        let name = if family.sizes.len() > 1 { format!("{}, n = {n}", family.name) } else { family.name.to_string() };
+        let file = canonical(family.free, &term).file();
+        let report = plain_call(s, &file, WHOLE);
+        if cfg!(feature = "library") { assert_eq!(library_call(s, &file, WHOLE), report, "{name}"); }
+        let end = match report[0] { 0 => "normal".to_string(), n => format!("refused {n}") };
+        Case { name, file, nodes: term.len(), steps: report[2..7].iter().sum(), taken: report[7], end }
+    }
+
+    /// The budget of a call that ends before the result is written.
+    fn short(&self) -> u32 { self.steps.saturating_sub(1) as u32 }
+}
+
 /// seconds per call
 fn time(mut call: impl FnMut()) -> f64 {
     call();
@@ -43,61 +98,50 @@ fn time(mut call: impl FnMut()) -> f64 {
     best
 }
 
-fn steps(r: &[u64; 12]) -> u64 { r[2..7].iter().sum() }
-
-fn row(s: &mut Arrays, name: &str, f: usize, t: &Flat) -> (f64, u64) {
-    let file = canonical(f, t).file();
-    let with = cfg!(feature = "library");
-    let report = plain_call(s, &file, 1_000_000);
-    if with { assert_eq!(library_call(s, &file, 1_000_000), report, "{name}"); }
-    let made = steps(&report);
-    let short = made.saturating_sub(1) as u32;
-    let end = match report[0] { 0 => "normal".to_string(), n => format!("refused {n}") };
-    let (pw, ps) = (time(|| { plain_call(s, &file, 1_000_000); }), time(|| { plain_call(s, &file, short); }));
-    if with {
-        let (lw, ls) = (time(|| { library_call(s, &file, 1_000_000); }), time(|| { library_call(s, &file, short); }));
-        println!("{name:34} {:6} {made:6} {:6} {end:10} | {:8.1} {:8.1} | {:8.1} {:8.1} | {:7.1} {:7.1} | {:5.2} {:5.2}", t.len(), report[7],
-            lw * 1e6, ls * 1e6, pw * 1e6, ps * 1e6, made as f64 / ls / 1e6, made as f64 / ps / 1e6, lw / pw, ls / ps);
-        (lw, made)
+/// Prints the case's row, and returns the seconds of a whole call.
+fn time_row(s: &mut Arrays, case: &Case) -> f64 {
+    let Case { name, file, nodes, steps, taken, end } = case;
+    let short = case.short();
+    let (pw, ps) = (time(|| { plain_call(s, file, WHOLE); }), time(|| { plain_call(s, file, short); }));
+    let speed = |seconds: f64| *steps as f64 / seconds / 1e6;
+    if cfg!(feature = "library") {
+        let (lw, ls) = (time(|| { library_call(s, file, WHOLE); }), time(|| { library_call(s, file, short); }));
+        println!("{name:42} {nodes:6} {steps:6} {taken:6} {end:10} | {:8.1} {:8.1} | {:8.1} {:8.1} | {:7.1} {:7.1} | {:5.2} {:5.2}",
+            lw * 1e6, ls * 1e6, pw * 1e6, ps * 1e6, speed(ls), speed(ps), lw / pw, ls / ps);
+        lw
     } else {
-        println!("{name:34} {:6} {made:6} {:6} {end:10} | {:8.1} {:8.1} | {:7.1}", t.len(), report[7], pw * 1e6, ps * 1e6, made as f64 / ps / 1e6);
-        (pw, made)
+        println!("{name:42} {nodes:6} {steps:6} {taken:6} {end:10} | {:8.1} {:8.1} | {:7.1}", pw * 1e6, ps * 1e6, speed(ps));
+        pw
     }
 }
 
-fn grows(s: &mut Arrays, name: &str, f: usize, ns: &[usize], make: impl Fn(usize) -> Flat) {
-    let mut last: Option<(usize, f64, u64)> = None;
-    for &n in ns {
-        let (t, made) = row(s, &format!("{name}, n = {n}"), f, &make(n));
-        if let Some((m, before, steps_before)) = last {
-            println!("{:34} n x {:.2}: steps x {:.2}, time x {:.2}", "", n as f64 / m as f64, made as f64 / steps_before.max(1) as f64, t / before);
+fn time_table() {
+    println!("largest stores, made once, NOT cleared between calls; microseconds per call; millions of steps per second from the calls that write no result");
+    if cfg!(feature = "library") {
+        println!("{:42} {:>6} {:>6} {:>6} {:10} | {:>8} {:>8} | {:>8} {:>8} | {:>7} {:>7} | {:>5} {:>5}", "", "file", "steps", "nodes", "end", "lib all", "lib run", "pl. all", "pl. run", "lib M/s", "pl. M/s", "all", "run");
+    }
+    let s = &mut Arrays::largest();
+    for family in families() {
+        let mut last: Option<(usize, f64, u64)> = None;
+        for &n in family.sizes {
+            let case = Case::new(s, &family, n);
+            let seconds = time_row(s, &case);
+            if let Some((m, before, steps_before)) = last {
+                println!("{:42} n x {:.2}: steps x {:.2}, time x {:.2}", "", n as f64 / m as f64, case.steps as f64 / steps_before.max(1) as f64, seconds / before);
+            }
+            last = Some((n, seconds, case.steps));
         }
-        last = Some((n, t, made));
     }
 }
 
 fn work() {
-    let mut s = Arrays { tags: vec![0; 32_768], args: vec![0; 32_768], codes: vec![0; 32_768], owns: vec![0; 32_768], nexts: vec![0; 32_768], places: vec![0; 32_768], renumber: vec![0; 32_768], out_tags: vec![0; 16_384], out_args: vec![0; 16_384] };
-    println!("largest stores, made once, NOT cleared between calls; microseconds per call; millions of steps per second from the calls that write no result");
-    if cfg!(feature = "library") {
-        println!("{:34} {:>6} {:>6} {:>6} {:10} | {:>8} {:>8} | {:>8} {:>8} | {:>7} {:>7} | {:>5} {:>5}", "", "file", "steps", "nodes", "end", "lib all", "lib run", "pl. all", "pl. run", "lib M/s", "pl. M/s", "all", "run");
+    let words: Vec<String> = std::env::args().skip(1).collect();
+    match words.first().map(String::as_str) {
+        None => time_table(),
+        Some("--instructions") => instructions::table(),
+        Some("--calls") => instructions::make_calls(&words[1..]),
+        Some(other) => { eprintln!("glow-bench: {other} is not known; there is --instructions"); std::process::exit(2) }
     }
-    let s = &mut s;
-    grows(s, "t_n of proposition 3", 1, &[13, 100, 200, 400, 800, 1600, 3276], open_explosion);
-    grows(s, "u_n of (4)", 1, &[8, 16, 32, 64, 125], u4);
-    grows(s, "s_n I of proposition 7", 0, &[5, 11, 100, 500, 1000, 2000], s7);
-    grows(s, "s_n i of section 10", 2, &[2, 4, 6, 8, 9], |n| s10(n, &v(W)));
-    grows(s, "2 ^ n shown", 2, &[2, 4, 6, 8, 10], |n| shown(apply(power(), [church(2), church(n)])));
-    grows(s, "n * n shown", 2, &[5, 10, 20, 40, 80], |n| shown(apply(product(), [church(n), church(n)])));
-    grows(s, "renamings", 1, &[500, 1000, 2000, 4000], renamings);
-    grows(s, "copying: y d d, d of n binders", 1, &[500, 1000, 2000, 5000], |n| a(l(9_500_000, apply(v(Y), [v(9_500_000), v(9_500_000)])), nested_abstractions(n)));
-    grows(s, "copying: 30 copies of n arguments", 1, &[60, 120, 240, 480], |n| copied_chain(&v(Y), n, 30, v(Y)));
-    row(s, "omega to the end of the store", 0, &omega());
-    row(s, "omega 3 to the end of the store", 0, &omega3());
-    row(s, "fixed point to the end of the store", 1, &z_loop());
-    row(s, "nothing to do: 16383 abstractions", 0, &nested_abstractions(16_383));
-    row(s, "only shifting: 8191 to the left", 1, &left_nested(8191, Y));
-    row(s, "only shifting: 8191 to the right", 1, &right_nested(8191, Y));
 }
 
 fn main() { std::thread::Builder::new().stack_size(64 << 20).spawn(work).unwrap().join().unwrap(); }

@@ -1,0 +1,12 @@
+#!/usr/bin/env bash
+# Runs the benchmark, times and then instructions, and keeps what it prints in bench/last.txt. The library must be built.
+set -euo pipefail
+cd "$(dirname "$0")/.."
+new=$(mktemp)
+trap 'rm -f "$new"' EXIT
+{
+    cargo run --release --offline --locked -p glow-bench
+    echo
+    cargo run --release --offline --locked -p glow-bench -- --instructions
+} | tee "$new"
+cp "$new" bench/last.txt

@@ -1,0 +1,74 @@
+//! Instructions of a call, counted by valgrind's callgrind.
+//!
+//! Callgrind counts a whole process. So it runs this program again as a child that does nothing but
+//! make calls of four kinds on one file: once with one call of each kind, and then, for each kind,
+//! with `MORE` calls more of it. The difference is those calls alone: start-up, and the first call
+//! on new stores, are in both counts.
+use crate::{families, library_call, plain_call, Arrays, Case, Family, WHOLE};
+use std::io::{Read, Write};
+use std::process::{Command, Stdio};
+
+const MORE: u64 = 5;
+/// Callgrind counts a repeated string instruction once for each byte, a processor once. With these
+/// settings glibc clears and copies long stretches by vector instructions, which both count alike.
+const NO_STRING_INSTRUCTIONS: &str = "glibc.cpu.x86_rep_stosb_threshold=1000000000:glibc.cpu.x86_rep_movsb_threshold=1000000000";
+
+/// Calls of each kind: the library's whole and short ones, the plain machine's whole and short ones.
+type Calls = [u64; 4];
+
+pub fn table() {
+    if !cfg!(feature = "library") { return println!("instructions are counted beside the library, and this benchmark is built without it"); }
+    if Command::new("valgrind").arg("--version").output().is_err() { return println!("valgrind is not there: no instructions are counted"); }
+    println!("largest stores, made once, NOT cleared between calls; instructions executed, by callgrind, of a call with load and check of the file; all: with the result written, run: one step less and no result");
+    println!("{:42} {:>6} {:10} | {:^39} | {:^35} | {:^11}", "", "", "", "per call", "per step", "lib / plain");
+    println!("{:42} {:>6} {:10} | {:>9} {:>9} {:>9} {:>9} | {:>8} {:>8} {:>8} {:>8} | {:>5} {:>5}", "", "steps", "end",
+        "lib all", "lib run", "pl. all", "pl. run", "lib all", "lib run", "pl. all", "pl. run", "all", "run");
+    let s = &mut Arrays::largest();
+    for family in families() {
+        for n in counted_sizes(&family) { row(&Case::new(s, &family, n)); }
+    }
+}
+
+/// The first, the middle and the last size, as counting takes long.
+fn counted_sizes(family: &Family) -> Vec<usize> {
+    let sizes = family.sizes;
+    let mut counted = vec![sizes[0], sizes[sizes.len() / 2], sizes[sizes.len() - 1]];
+    counted.dedup();
+    counted
+}
+
+fn row(case: &Case) {
+    let once = count(case, [1; 4]);
+    let per_call = [0, 1, 2, 3].map(|kind| {
+        let mut calls = [1; 4];
+        calls[kind] += MORE;
+        (count(case, calls) - once) as f64 / MORE as f64
+    });
+    let [lw, ls, pw, ps] = per_call;
+    let [lw_step, ls_step, pw_step, ps_step] = per_call.map(|i| if case.steps == 0 { "-".to_string() } else { format!("{:.1}", i / case.steps as f64) });
+    println!("{:42} {:6} {:10} | {lw:9.0} {ls:9.0} {pw:9.0} {ps:9.0} | {lw_step:>8} {ls_step:>8} {pw_step:>8} {ps_step:>8} | {:5.2} {:5.2}",
+        case.name, case.steps, case.end, lw / pw, ls / ps);
+}
+
+/// The instructions of a child that makes these calls on the case's file.
+fn count(case: &Case, calls: Calls) -> u64 {
+    let mut child = Command::new("valgrind").env("GLIBC_TUNABLES", NO_STRING_INSTRUCTIONS).args(["--tool=callgrind", "--callgrind-out-file=/dev/null"])
+        .arg(std::env::current_exe().expect("the path of this program")).arg("--calls").arg(case.short().to_string()).args(calls.map(|n| n.to_string()))
+        .stdin(Stdio::piped()).stderr(Stdio::piped()).spawn().expect("valgrind starts");
+    child.stdin.take().expect("a pipe").write_all(&case.file).expect("the child reads the file");
+    let said = String::from_utf8_lossy(&child.wait_with_output().expect("valgrind ends").stderr).into_owned();
+    said.lines().find_map(|line| line.split_once("Collected : ")?.1.trim().parse().ok()).unwrap_or_else(|| panic!("callgrind gave no count:\n{said}"))
+}
+
+/// The child: `--calls SHORT`, a number of calls for each kind, and the file at standard input.
+pub fn make_calls(words: &[String]) {
+    let numbers: Vec<u64> = words.iter().map(|word| word.parse().expect("a number")).collect();
+    let [short, lib_all, lib_run, plain_all, plain_run] = numbers[..] else { panic!("--calls takes five numbers") };
+    let mut file = Vec::new();
+    std::io::stdin().read_to_end(&mut file).expect("the file");
+    let s = &mut Arrays::largest();
+    for _ in 0..lib_all { library_call(s, &file, WHOLE); }
+    for _ in 0..lib_run { library_call(s, &file, short as u32); }
+    for _ in 0..plain_all { plain_call(s, &file, WHOLE); }
+    for _ in 0..plain_run { plain_call(s, &file, short as u32); }
+}
