@@ -13,7 +13,7 @@ use Rattle.termfile.specs.Nodes.{write}
 use Rattle.termfile.specs.File.{maxFree, maxNodes, freeNames, nodeCount, tags, nodes, codeOf, known, holds, unless, longEnough, inLimits, exactLength, tagsKnown, oneTerm, bindersInPlace, variablesInScope, refusal, count}
 use Rattle.termfile.proofs.Reading.{read-is, length-write, count-write}
 use Rattle.termfile.proofs.Bytes.{tags-nodes, length-nodes}
-use Rattle.termfile.proofs.Refusals.{unless-none, not-refused, long-enough, in-limits, exact-length}
+use Rattle.termfile.proofs.Refusals.{unless-none, framed-refusal}
 
 -- what the tests say of a file that passes them all
 pub record Accepted (s : List ℕ) : Type 0 where
@@ -64,14 +64,13 @@ module _ {s : List ℕ} (a : Accepted s) where
   -- a file that passes them is not refused
   pub accepted-back : refusal s ≡ none
   accepted-back =
-      not-refused s
-      (long-enough s (a .long))
-      (in-limits s (a .free-limit) (a .nodes-pos) (a .nodes-limit))
-      (exact-length s (a .exact))
-      (a .known-tags)
-      (ap (holds (λ c. true)) (a .is-code))
-      (ap (holds (numbered (freeNames s))) (a .is-code) ∙ a .in-order)
-      (ap (holds (scoped (freeNames s) [])) (a .is-code) ∙ a .in-scope)
+      rw (
+        framed-refusal (record { count = refl; long = a .exact; least = a .nodes-pos; most = a .nodes-limit }) refl (a .free-limit),
+        a .known-tags,
+        a .is-code,
+        a .in-order,
+        a .in-scope,
+      )
 
   -- an accepted file's nodes are the writing of its code; so they are as many, of each tag, as the code has
   pub nodes-code : nodes s ≡ write (a .code)

@@ -1,15 +1,17 @@
--- The seven tests of `refusal`, one after the other: what the tests passed and the test failed tell of it, with a lemma for each answer;
--- and what the tests say as facts about numbers. The idea: each test that is known takes one `unless` off the chain.
+-- The seven tests of `refusal`, one after the other: a lemma for each of the first three answers, what the tests say as facts about
+-- numbers, and what is left of the chain where the first three have passed. The idea: each test that is known takes one `unless` off it.
 -- Assumes nothing.
 use Prim.Native.Nat.{ℕ, _+_, _*_, _≤_, _<_}
-use mathlib.Core.Path.{_≡_, refl, ap, _∙_}
+use mathlib.Core.Path.{_≡_, refl}
 use mathlib.Core.Bool.{Bool, true, false}
 use mathlib.Core.List.{List, []}
 use mathlib.Core.Option.{Option, none, some, Option·some-ne-none}
+use native.Mathlib.Omega.{arith}
 use lib.ListN.{length}
 use borrow.Author.Tests.{le-leb, lt-leb, eq-eqb, ne-eqb}
-use Rattle.termfile.specs.Code.{numbered, scoped}
-use Rattle.termfile.specs.File.{maxFree, maxNodes, freeNames, nodeCount, codeOf, holds, unless, longEnough, inLimits, exactLength, tagsKnown, oneTerm, bindersInPlace, variablesInScope, refusal}
+use Rattle.termfile.specs.Code.{Code, numbered, scoped}
+use Rattle.termfile.specs.File.{maxFree, maxNodes, freeNames, nodeCount, codeOf, holds, unless, longEnough, inLimits, exactLength, tagsKnown, refusal}
+use Rattle.termfile.specs.Passes.{Framed}
 
 -- a test that does not refuse holds, and nor does a later one refuse
 pub unless-none : (q : Bool) (k : ℕ) (rest : Option ℕ) → unless q k rest ≡ none → (q ≡ true) × (rest ≡ none)
@@ -30,30 +32,6 @@ module _ (s : List ℕ) where
       pub refused-length : exactLength s ≡ false → refusal s ≡ some 3
       unfolding refusal
       refused-length h = rw (a, b, h)
-
-      module _ (c : exactLength s ≡ true) where
-        pub refused-tag : tagsKnown s ≡ false → refusal s ≡ some 4
-        unfolding refusal
-        refused-tag h = rw (a, b, c, h)
-
-        module _ (d : tagsKnown s ≡ true) where
-          pub refused-shape : oneTerm s ≡ false → refusal s ≡ some 5
-          unfolding refusal
-          refused-shape h = rw (a, b, c, d, h)
-
-          module _ (e : oneTerm s ≡ true) where
-            pub refused-binder : bindersInPlace s ≡ false → refusal s ≡ some 6
-            unfolding refusal
-            refused-binder h = rw (a, b, c, d, e, h)
-
-            module _ (f : bindersInPlace s ≡ true) where
-              pub refused-variable : variablesInScope s ≡ false → refusal s ≡ some 7
-              unfolding refusal
-              refused-variable h = rw (a, b, c, d, e, f, h)
-
-              pub not-refused : variablesInScope s ≡ true → refusal s ≡ none
-              unfolding refusal
-              not-refused h = rw (a, b, c, d, e, f, h)
 
   -- The tests as facts about numbers
 
@@ -83,10 +61,18 @@ module _ (s : List ℕ) where
   pub not-exact-length : (length s ≡ 4 + 3 * nodeCount s → ⊥) → exactLength s ≡ false
   not-exact-length h = ne-eqb (length s) (4 + 3 * nodeCount s) h
 
-  -- the last two tests, where the count of free names has been read into f
-  module _ {f : ℕ} (names : f ≡ freeNames s) {q : Bool} where
-    pub binders-read : q ≡ holds (numbered f) (codeOf s) → q ≡ bindersInPlace s
-    binders-read h = h ∙ ap (λ (k : ℕ). holds (numbered k) (codeOf s)) names
+-- the tests 5 to 7, of f free names and of the code that the nodes stand for
+abbrev pub nodeTests : ℕ → Option Code → Option ℕ
+nodeTests f o = unless (holds (λ c. true) o) 5 (unless (holds (numbered f) o) 6 (unless (holds (scoped f []) o) 7 none))
 
-    pub variables-read : q ≡ holds (scoped f []) (codeOf s) → q ≡ variablesInScope s
-    variables-read h = h ∙ ap (λ (k : ℕ). holds (scoped k []) (codeOf s)) names
+-- a file that has passed the tests 1 to 3, where the count of free names has been read into f
+pub framed-refusal : {s : List ℕ} {n f : ℕ} → Framed s n → f ≡ freeNames s → f ≤ maxFree → refusal s ≡ unless (tagsKnown s) 4 (nodeTests f (codeOf s))
+unfolding refusal
+framed-refusal {s} framed names few =
+    let count = framed .count in
+    rw (
+      long-enough s (omega (arith, framed .long)),
+      in-limits s (omega arith) (omega (arith, framed .least)) (omega (arith, framed .most)),
+      exact-length s (omega (arith, framed .long)),
+      names,
+    )

@@ -18,9 +18,11 @@ mod shape;
 mod tags;
 
 ghost use mathlib.Core.Path.{_≡_};
+ghost use Prim.Native.Nat.{_≤_};
+ghost use lib.ListN.{length};
 ghost use Rattle.termfile.specs.Answer.{answer, told};
 ghost use Rattle.termfile.specs.File.{freeNames, counts};
-ghost use Rattle.termfile.specs.Passes.{Framed};
+ghost use Rattle.termfile.specs.Passes.{Framed, Tagged};
 use binders::in_order;
 use layout::word_at;
 use scope::in_scope;
@@ -59,6 +61,10 @@ const MAX_FREE: usize = 16384;
 
 const MAX_NODES: usize = 16384;
 
+// The most nodes of a file that is checked in small arrays: to zero the large ones takes longer than
+// all else that a small file asks for.
+const SMALL: usize = 256;
+
 // Whether a byte string is a term file: its counts, or the first of the seven refusals that it
 // meets. The answer is an equation with its definition, for every byte string; only two arrays of
 // the function's own are written.
@@ -90,15 +96,31 @@ pub fn check(file: &[u8]) -> Checked
     if !tags_known(file, n) {
         return Checked::Refused(Refusal::Tag);
     }
-    let mut sizes = [0u16; 16384];
-    if !is_term(file, n, &mut sizes) {
+    if n <= SMALL {
+        let mut sizes = [0u16; SMALL];
+        let mut ends = [0u16; SMALL];
+        return check_nodes(file, n, f, &mut sizes, &mut ends);
+    }
+    let mut sizes = [0u16; MAX_NODES];
+    let mut ends = [0u16; MAX_NODES];
+    check_nodes(file, n, f, &mut sizes, &mut ends)
+}
+
+// The answer for a file that has passed the first four tests, with f free names and n nodes.
+// `sizes` and `ends` are for its own use, whatever they hold.
+fn check_nodes(file: &[u8], n: usize, f: usize, sizes: &mut [u16], ends: &mut [u16]) -> Checked
+    requires { ⌜ Tagged (now file) n f ⌝ }
+    requires { ⌜ n ≤ length (now sizes) ⌝ }
+    requires { ⌜ n ≤ length (now ends) ⌝ }
+    ensures { λ r. ⌜ told r ≡ answer (now (file .entry)) ⌝ }
+{
+    if !is_term(file, n, sizes) {
         return Checked::Refused(Refusal::Shape);
     }
     if !in_order(file, n, f) {
         return Checked::Refused(Refusal::Binder);
     }
-    let mut ends = [0u16; 16384];
-    if !in_scope(file, n, f, &sizes, &mut ends) {
+    if !in_scope(file, n, f, sizes, ends) {
         return Checked::Refused(Refusal::Variable);
     }
     Checked::Accepted(counted(file, n, f))
