@@ -5,9 +5,9 @@ pub mod Moves
 pub mod Choosing
 pub mod Running
 pub mod Calling
+pub mod Jobs
 pub mod Output
 pub mod Sizes
-pub mod Jobs
 pub mod Weights
 pub mod Final
 pub mod Promise
