@@ -11,3 +11,4 @@ pub mod Sizes
 pub mod Weights
 pub mod Final
 pub mod Promise
+pub mod Opening
