@@ -23,6 +23,7 @@ pub mod Drawing
 pub mod Growing
 pub mod Applying
 pub mod Entering
+pub mod Chains
 pub mod Treading
 pub mod Unstacking
 pub mod Owning
