@@ -1,9 +1,9 @@
 // Whether arrays hold what they were filled with.
 
 // Whether the bytes from `from` on are all the value.
-pub fn kept_bytes(s: &[u8], from: usize, value: u8) -> bool {
+pub fn kept_bytes(s: &[u8; 33000], from: usize, value: u8) -> bool {
     let mut i = from;
-    while i < s.len() {
+    while i < 33000 {
         if s[i] != value {
             return false;
         }
@@ -12,9 +12,9 @@ pub fn kept_bytes(s: &[u8], from: usize, value: u8) -> bool {
     true
 }
 
-pub fn kept_words(s: &[u16], from: usize, value: u16) -> bool {
+pub fn kept_words(s: &[u16; 33000], from: usize, value: u16) -> bool {
     let mut i = from;
-    while i < s.len() {
+    while i < 33000 {
         if s[i] != value {
             return false;
         }
@@ -24,12 +24,12 @@ pub fn kept_words(s: &[u16], from: usize, value: u16) -> bool {
 }
 
 pub fn stores_kept(
-    tags: &[u8],
-    args: &[u16],
-    codes: &[u16],
-    owns: &[u16],
-    nexts: &[u16],
-    places: &[u16],
+    tags: &[u8; 33000],
+    args: &[u16; 33000],
+    codes: &[u16; 33000],
+    owns: &[u16; 33000],
+    nexts: &[u16; 33000],
+    places: &[u16; 33000],
     word: u16,
     byte: u8,
 ) -> bool {

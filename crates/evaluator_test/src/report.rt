@@ -1,128 +1,56 @@
 // A call, and its line: the name, all that the answer has, and whether the arrays that must not change
 // hold what they were filled with.
-use crate::build::put_file;
 use crate::kept::kept_bytes;
 use crate::kept::kept_words;
-use crate::kept::stores_kept;
-use crate::text::budget_of;
-use crate::text::fill_of;
+use crate::text::Fill;
 use evaluator::Answer;
 use evaluator::Outcome;
 use evaluator::Refusal;
 use evaluator::Report;
 use libc::STDOUT_FILENO;
+ghost use Prim.Native.Nat.{_≤_};
 
-// Where it is asked for, a run that takes much of the stores: (λx. x x) (λx. x x), with a budget of
-// 1000 steps, which it spends.
-pub fn run_another(
-    asked: bool,
-    tags: &mut [u8],
-    args: &mut [u16],
-    codes: &mut [u16],
-    owns: &mut [u16],
-    nexts: &mut [u16],
-    places: &mut [u16],
-    renumber: &mut [u16],
-    out_tags: &mut [u8],
-    out_args: &mut [u16],
-) {
-    let mut file = [0u8; 31];
-    put_file(b"; f0 a4 l0 a1 v0 v0 l1 a1 v1 v1", &mut file);
-    if asked {
-        evaluator::evaluate(
-            &file,
-            1000,
-            tags,
-            args,
-            codes,
-            owns,
-            nexts,
-            places,
-            renumber,
-            out_tags,
-            out_args,
-        );
-    }
-}
-
-// Makes the call and writes its line.
-pub fn call(
+// Writes the line of a call, if it is the row's: told are whether the stores and the renumber store hold
+// what they were filled with.
+pub fn write_line(
+    round: usize,
     name: &[u8],
-    numbers: &[u8],
-    file: &[u8],
-    tags: &mut [u8],
-    args: &mut [u16],
-    codes: &mut [u16],
-    owns: &mut [u16],
-    nexts: &mut [u16],
-    places: &mut [u16],
-    renumber: &mut [u16],
-    out_tags: &mut [u8],
-    out_args: &mut [u16],
+    fill: Fill,
+    answer: Answer,
+    stores: bool,
+    renumber: bool,
+    out_tags: &[u8; 33000],
+    out_args: &[u16; 33000],
 ) {
-    let answer = evaluator::evaluate(
-        file,
-        budget_of(numbers),
-        tags,
-        args,
-        codes,
-        owns,
-        nexts,
-        places,
-        renumber,
-        out_tags,
-        out_args,
-    );
-    io::write_all(STDOUT_FILENO, name);
-    finish(
-        answer,
-        numbers,
-        tags,
-        args,
-        codes,
-        owns,
-        nexts,
-        places,
-        renumber,
-        out_tags,
-        out_args,
-    );
+    if round == 0 {
+        return;
+    }
+    write_name(round, name);
+    let left = write_answer(answer, out_tags, out_args);
+    let from = left.output;
+    let output = kept_bytes(out_tags, from, fill.byte) & kept_words(out_args, from, fill.word);
+    write_kept(left, stores | fill.dirty, renumber, output);
 }
 
-// Writes the answer, and whether what must be left as it was is so.
-fn finish(
-    answer: Answer,
-    numbers: &[u8],
-    tags: &[u8],
-    args: &[u16],
-    codes: &[u16],
-    owns: &[u16],
-    nexts: &[u16],
-    places: &[u16],
-    renumber: &[u16],
-    out_tags: &[u8],
-    out_args: &[u16],
-) {
-    let fill = fill_of(numbers);
-    let word = fill.word;
-    let byte = fill.byte;
-    let left = write_answer(answer, out_tags, out_args);
+fn write_name(round: usize, name: &[u8]) {
+    if round == 2 {
+        io::write_all(STDOUT_FILENO, b"again, ");
+    }
+    io::write_all(STDOUT_FILENO, name);
+}
+
+// Writes what must be left as it was, and whether it is so.
+fn write_kept(left: Left, stores: bool, renumber: bool, output: bool) {
+    let mut kept = output;
     io::write_all(STDOUT_FILENO, b"; ");
-    let mut kept = kept_bytes(out_tags, left.output, byte)
-        & kept_words(out_args, left.output, word);
     if left.stores {
-        let same = stores_kept(tags, args, codes, owns, nexts, places, word, byte);
-        kept = kept & (same | fill.dirty);
+        kept = kept & stores;
         io::write_all(STDOUT_FILENO, b"stores, ");
     }
     if left.renumber {
-        kept = kept & kept_words(renumber, 0, word);
+        kept = kept & renumber;
         io::write_all(STDOUT_FILENO, b"renumber, ");
     }
-    write_kept(kept);
-}
-
-fn write_kept(kept: bool) {
     if kept {
         io::write_all(STDOUT_FILENO, b"output kept\n");
     } else {
@@ -138,7 +66,7 @@ struct Left {
     output: usize,
 }
 
-fn write_answer(answer: Answer, out_tags: &[u8], out_args: &[u16]) -> Left {
+fn write_answer(answer: Answer, out_tags: &[u8; 33000], out_args: &[u16; 33000]) -> Left {
     match answer {
         Answer::FileRefused(why) => {
             write_number(b": refused ", number_of_file(why));
@@ -152,7 +80,7 @@ fn write_answer(answer: Answer, out_tags: &[u8], out_args: &[u16]) -> Left {
     }
 }
 
-fn write_report(report: Report, out_tags: &[u8], out_args: &[u16]) -> Left {
+fn write_report(report: Report, out_tags: &[u8; 33000], out_args: &[u16; 33000]) -> Left {
     let outcome = report.outcome;
     write_outcome(outcome);
     write_number(b", beta ", report.beta);
@@ -229,11 +157,8 @@ fn write_number(before: &[u8], number: u64) {
 }
 
 // Writes a term of n nodes: the nodes as the paper writes them, or a digest of more than 70.
-fn write_term(out_tags: &[u8], out_args: &[u16], n: usize) {
-    if n > out_tags.len() {
-        return;
-    }
-    if n > out_args.len() {
+fn write_term(out_tags: &[u8; 33000], out_args: &[u16; 33000], n: usize) {
+    if n > 33000 {
         return;
     }
     if n > 70 {
@@ -262,15 +187,13 @@ fn write_node(tag: u8, argument: u16) {
 }
 
 // A number that depends on each of the first n nodes.
-fn digest(tags: &[u8], arguments: &[u16], n: usize) -> u64 {
+fn digest(out_tags: &[u8; 33000], out_args: &[u16; 33000], n: usize) -> u64
+    requires { ⌜ n ≤ 33000 ⌝ }
+{
     let mut sum: u64 = 0;
     let mut i = 0;
     while i < n {
-        if i < tags.len() {
-            if i < arguments.len() {
-                sum = with_node(sum, tags[i], arguments[i]);
-            }
-        }
+        sum = with_node(sum, out_tags[i], out_args[i]);
         i += 1;
     }
     sum

