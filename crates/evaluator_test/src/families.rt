@@ -108,19 +108,9 @@ fn node_of_explosion(k: usize, i: usize) -> Node {
 
 // The node i of a chain of k names from `first` on, whose innermost body has so many nodes and stands
 // for the last name, and whose outermost argument is the name `last`.
-fn node_of_chain(k: usize, first: usize, body: usize, last: usize, i: usize) -> Node {
-    if k > 20000 {
-        return variable(0);
-    }
-    if body > 100000 {
-        return variable(0);
-    }
-    if first > 100 {
-        return variable(0);
-    }
-    if i > 20000 {
-        return variable(0);
-    }
+fn node_of_chain(k: usize, first: usize, body: usize, last: usize, i: usize) -> Node
+    requires { ⌜ (k ≤ 20000) × (first ≤ 100) × (body ≤ 100000) × (i ≤ 20000) ⌝ }
+{
     if i < 2 * k {
         if i % 2 == 0 {
             return application(minus(minus(3 * k + body, 3 * (i / 2)), 2));
@@ -133,7 +123,9 @@ fn node_of_chain(k: usize, first: usize, body: usize, last: usize, i: usize) -> 
     variable(minus(first + 3 * k, 1 + i))
 }
 
-fn node_of_repeated(k: usize, i: usize) -> Node {
+fn node_of_repeated(k: usize, i: usize) -> Node
+    requires { ⌜ (k ≤ 20000) × (i ≤ 20000) ⌝ }
+{
     if i == 0 {
         return application(62);
     }
@@ -155,13 +147,9 @@ fn node_of_repeated(k: usize, i: usize) -> Node {
     node_of_chain(k, 3, 1, 2, i - 64)
 }
 
-fn node_of_wide(k: usize, i: usize) -> Node {
-    if k > 20000 {
-        return variable(0);
-    }
-    if i > 20000 {
-        return variable(0);
-    }
+fn node_of_wide(k: usize, i: usize) -> Node
+    requires { ⌜ (k ≤ 20000) × (i ≤ 20000) ⌝ }
+{
     if i < 2 * k {
         return node_of_chain(k, 1, 2 * k + 1, 0, i);
     }

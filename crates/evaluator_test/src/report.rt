@@ -83,16 +83,7 @@ fn write_answer(answer: Answer, out_tags: &[u8; 33000], out_args: &[u16; 33000])
 fn write_report(report: Report, out_tags: &[u8; 33000], out_args: &[u16; 33000]) -> Left {
     let outcome = report.outcome;
     write_outcome(outcome);
-    write_number(b", beta ", report.beta);
-    write_number(b", subst ", report.subst);
-    write_number(b", enter ", report.enter);
-    write_number(b", leave ", report.leave_fun);
-    write_number(b" ", report.leave_inert);
-    write_number(b", store ", report.nodes as u64);
-    write_number(b" ", report.cells as u64);
-    write_number(b" ", report.names as u64);
-    write_number(b", of ", report.subst_allowance);
-    write_number(b" ", report.shift_allowance);
+    write_counts(report);
     let loading = report.nodes == 0;
     match outcome {
         Outcome::Normal(n) => {
@@ -110,6 +101,19 @@ fn write_report(report: Report, out_tags: &[u8; 33000], out_args: &[u16; 33000])
             output: 0,
         },
     }
+}
+
+fn write_counts(report: Report) {
+    write_number(b", beta ", report.beta);
+    write_number(b", subst ", report.subst);
+    write_number(b", enter ", report.enter);
+    write_number(b", leave ", report.leave_fun);
+    write_number(b" ", report.leave_inert);
+    write_number(b", store ", report.nodes as u64);
+    write_number(b" ", report.cells as u64);
+    write_number(b" ", report.names as u64);
+    write_number(b", of ", report.subst_allowance);
+    write_number(b" ", report.shift_allowance);
 }
 
 fn write_outcome(outcome: Outcome) {

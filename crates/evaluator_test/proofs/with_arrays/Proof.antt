@@ -1,11 +1,11 @@
 -- `with_arrays` is safe: each array keeps its length from call to call, so that a part of at most that
 -- length ends within it. The measure is the number of calls left.
 -- Assumes nothing.
-use Prim.Native.Nat.{ℕ, _-_, _≤_}
+use Prim.Native.Nat.{ℕ, _+_, _-_, _≤_, _<_}
 use mathlib.Core.Path.{_≡_, refl}
 use mathlib.Core.List.{List, _++_}
 use native.Mathlib.Omega.{arith}
-use lib.ListN.{length, take, drop, length-append, length-take, length-drop, length-replicate}
+use lib.ListN.{length, take, drop, length-append, length-take, length-drop}
 use Rattle.evaluator_test.proofs.with_arrays.Statement.{statement}
 use Rattle.evaluator_test.proofs.with_arrays.Tie as tie
 
@@ -28,6 +28,12 @@ back :
     Whole (ys ++ drop n xs)
 back xs ys n whole fits same =
     omega (arith, length-append ys (drop n xs), length-take n xs, length-drop n xs)
+
+small : {r : ℕ} → r < 3 → r + 1 < 18446744073709551616
+small taken = omega arith
+
+fewer : {r : ℕ} → r < 3 → 3 - (r + 1) < 3 - r
+fewer taken = omega arith
 
 abbrev Inv-loop : tie.InvT-loop
 Inv-loop name numbers other file fill word byte tags₀ args₀ codes₀ owns₀ nexts₀ places₀ renumber₀ out-tags₀ out-args₀ round₀ tags args codes owns nexts places renumber out-tags out-args round =
@@ -146,10 +152,10 @@ write-line-requires : tie.Need-write-line-requires Inv-loop μ-loop
 write-line-requires c κs = tt
 
 add-round : tie.Need-add-round Inv-loop μ-loop
-add-round c = omega (arith, c .before .before .before .before .before .before .before .before .before .before .before .before .before .before .before .before .before .before .before .before .before .before .before .before .before .before .before .before .before .before .before .before .before .before .before .before .before .before .before .before .before .before .loop-test .taken)
+add-round c = record { fits = small (c .before .before .before .before .before .before .before .before .before .before .before .before .before .before .before .before .before .before .before .before .before .before .before .before .before .before .before .before .before .before .before .before .before .before .before .before .before .before .before .before .before .before .loop-test .taken) }
 
 loop-less : tie.Need-loop-less Inv-loop μ-loop
-loop-less c = omega (arith, c .before .before .before .before .before .before .before .before .before .before .before .before .before .before .before .before .before .before .before .before .before .before .before .before .before .before .before .before .before .before .before .before .before .before .before .before .before .before .before .before .before .before .loop-test .taken)
+loop-less c = fewer (c .before .before .before .before .before .before .before .before .before .before .before .before .before .before .before .before .before .before .before .before .before .before .before .before .before .before .before .before .before .before .before .before .before .before .before .before .before .before .before .before .before .before .loop-test .taken)
 
 loop-again : tie.Need-loop-again Inv-loop μ-loop
 loop-again c = (
