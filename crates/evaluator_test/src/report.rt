@@ -1,4 +1,4 @@
-// A call, and its line: the name, all that the answer has, and whether the arrays that must not change
+// The line of a call: the name, all that the answer has, and whether the arrays that must not change
 // hold what they were filled with.
 use crate::kept::kept_bytes;
 use crate::kept::kept_words;
