@@ -1,3 +1,4 @@
+pub mod Numbers
 pub mod Keeping
 pub mod Numbering
 pub mod Renaming
@@ -26,6 +27,7 @@ pub mod Entering
 pub mod Chains
 pub mod Treading
 pub mod Unstacking
+pub mod Putting
 pub mod Owning
 pub mod Fitting
 pub mod Weighing
