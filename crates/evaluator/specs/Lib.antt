@@ -1,14 +1,3 @@
-pub mod Heap
-pub mod Storing
-pub mod Walk
-pub mod Moves
-pub mod Choosing
-pub mod Running
 pub mod Calling
-pub mod Jobs
-pub mod Output
-pub mod Sizes
-pub mod Weights
-pub mod Final
 pub mod Promise
 pub mod Opening
