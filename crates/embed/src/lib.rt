@@ -13,7 +13,7 @@ ghost use mathlib.Core.Path.{_≡_};
 ghost use Prim.Native.Nat.{_≤_};
 ghost use lib.ListN.{length};
 ghost use Rattle.termfile.specs.Answer as file;
-ghost use Rattle.machine.specs.Answer.{overlay, number-alone, report as reported};
+ghost use Rattle.machine.specs.Answer.{overlay, report as reported};
 ghost use Rattle.stepping.specs.Choosing.{number};
 ghost use Rattle.evaluator.specs.Calling.{toldOutcome, toldReport};
 ghost use Rattle.evaluator.specs.Promise.{memory};
