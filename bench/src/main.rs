@@ -3,7 +3,8 @@
 //! Stores are the largest (32,768 nodes, cells and names; renumber 32,768; output 16,384), made once
 //! and NOT cleared between calls, the same for both. A call is load, run and, at normal, writing the
 //! result. "all" is such a call; "run" is the same call with one step less of budget, so that it
-//! ends spent and writes no result. A time is the best of five rounds.
+//! ends spent and writes no result. A time is the best of fifteen short rounds, and the two sides take
+//! their rounds by turns, so that a machine that slows down for a while slows both.
 //!
 //!     cargo run --release -p glow-bench            (--no-default-features: the plain machine alone)
 //!     cargo run --release -p glow-bench -- --instructions
@@ -14,7 +15,9 @@ use glow_tests::families::*;
 use glow_tests::flat::*;
 use std::time::Instant;
 
-const ROUND: f64 = 0.04;
+const ROUNDS: usize = 15;
+/// The length of a round in seconds.
+const ROUND: f64 = 0.01;
 /// A budget that no case uses up.
 const WHOLE: u32 = 1_000_000;
 
@@ -85,15 +88,20 @@ impl Case {
     fn short(&self) -> u32 { self.steps.saturating_sub(1) as u32 }
 }
 
-/// seconds per call
-fn time(mut call: impl FnMut()) -> f64 {
-    call();
-    let mut best = f64::MAX;
-    for _ in 0..5 {
-        let start = Instant::now();
-        let mut calls = 0u64;
-        while start.elapsed().as_secs_f64() < ROUND { for _ in 0..4 { call(); } calls += 4; }
-        best = best.min(start.elapsed().as_secs_f64() / calls as f64);
+/// A side, and the budget of its calls.
+type Side = (fn(&mut Arrays, &[u8], u32) -> [u64; 12], u32);
+
+/// Seconds per call of each side, the best of its rounds.
+fn times<const N: usize>(s: &mut Arrays, file: &[u8], sides: [Side; N]) -> [f64; N] {
+    let mut best = [f64::MAX; N];
+    for _ in 0..ROUNDS {
+        for (best, (call, budget)) in best.iter_mut().zip(sides) {
+            call(s, file, budget);
+            let start = Instant::now();
+            let mut calls = 0u64;
+            while start.elapsed().as_secs_f64() < ROUND { for _ in 0..4 { call(s, file, budget); } calls += 4; }
+            *best = best.min(start.elapsed().as_secs_f64() / calls as f64);
+        }
     }
     best
 }
@@ -102,14 +110,14 @@ fn time(mut call: impl FnMut()) -> f64 {
 fn time_row(s: &mut Arrays, case: &Case) -> f64 {
     let Case { name, file, nodes, steps, taken, end } = case;
     let short = case.short();
-    let (pw, ps) = (time(|| { plain_call(s, file, WHOLE); }), time(|| { plain_call(s, file, short); }));
     let speed = |seconds: f64| *steps as f64 / seconds / 1e6;
     if cfg!(feature = "library") {
-        let (lw, ls) = (time(|| { library_call(s, file, WHOLE); }), time(|| { library_call(s, file, short); }));
+        let [lw, ls, pw, ps] = times(s, file, [(library_call, WHOLE), (library_call, short), (plain_call, WHOLE), (plain_call, short)]);
         println!("{name:42} {nodes:6} {steps:6} {taken:6} {end:10} | {:8.1} {:8.1} | {:8.1} {:8.1} | {:7.1} {:7.1} | {:5.2} {:5.2}",
             lw * 1e6, ls * 1e6, pw * 1e6, ps * 1e6, speed(ls), speed(ps), lw / pw, ls / ps);
         lw
     } else {
+        let [pw, ps] = times(s, file, [(plain_call, WHOLE), (plain_call, short)]);
         println!("{name:42} {nodes:6} {steps:6} {taken:6} {end:10} | {:8.1} {:8.1} | {:7.1}", pw * 1e6, ps * 1e6, speed(ps));
         pw
     }
