@@ -49,7 +49,7 @@ enum glow_tag { GLOW_VARIABLE = 0, GLOW_ABSTRACTION = 1, GLOW_APPLICATION = 2 };
 #define GLOW_MOST_COUNTED 32768     /* counted of the node, cell and name stores */
 
 /* Writing a result calls itself, at most once for each entry or item it passes through, 500 bytes of
-   stack each: 2.2 MB at most with the program's stores, 4.2 MB with the largest. Call it where there is
+   stack each: 2.3 MB at most with the program's stores, 4.3 MB with the largest. Call it where there is
    a stack of 8 MiB. No two arrays may overlap. A pointer may be anything when its length is 0, except null. */
 uint32_t glow_evaluate(
     const uint8_t *file, size_t file_len, uint32_t budget,

@@ -33,9 +33,29 @@ getD-pairs (t ∷ ts) [] i d h e = absurd (omega arith)
 getD-pairs (t ∷ ts) (m ∷ ms) zero d h e = refl
 getD-pairs (t ∷ ts) (m ∷ ms) (suc i) d h e = getD-pairs ts ms i d (omega arith) (omega arith)
 
+-- where the tag and the argument of node i stand, in a file as long as its count says
+module _ (s : List ℕ) {n : ℕ} (count : n ≡ nodeCount s) (exact : length s ≡ 4 + 3 * nodeCount s) where
+  pub tag-at : (i : ℕ) → i < n → getD (tags s) i 0 ≡ getD s (4 + i) 0
+  tag-at i h = getD-take (nodeCount s) (drop 4 s) i 0 (omega arith) ∙ getD-drop 4 s i 0
+
+  pub argument-at : (i : ℕ) → i < n → getD (arguments s) i 0 ≡ word (getD s (4 + n + 2 * i) 0) (getD s (4 + n + 2 * i + 1) 0)
+  argument-at i h =
+      ap (λ (l : List ℕ). getD l i 0) (bytes.arguments-behind s exact)
+      ∙ getD-words (behind s) i (2 * i) refl (omega (arith, bytes.length-behind s exact))
+      ∙ ap₂ word (byte-at (2 * i) low) (byte-at (suc (2 * i)) high)
+    where
+      byte-at : (j : ℕ) {k : ℕ} → 4 + nodeCount s + j ≡ k → getD (behind s) j 0 ≡ getD s k 0
+      byte-at j e = getD-drop (4 + nodeCount s) s j 0 ∙ ap (λ (k : ℕ). getD s k 0) e
+
+      low : 4 + nodeCount s + 2 * i ≡ 4 + n + 2 * i
+      low = omega arith
+
+      high : 4 + nodeCount s + suc (2 * i) ≡ 4 + n + 2 * i + 1
+      high = omega arith
+
 module _ {s : List ℕ} {n : ℕ} (framed : Framed s n) where
   -- the length test, as the file's own count has it
-  exact : length s ≡ 4 + 3 * nodeCount s
+  pub exact : length s ≡ 4 + 3 * nodeCount s
   exact = omega (arith, framed .count, framed .long)
 
   length-tags : length (tags s) ≡ n
@@ -46,24 +66,6 @@ module _ {s : List ℕ} {n : ℕ} (framed : Framed s n) where
 
   length-nodes : length (nodes s) ≡ n
   length-nodes = bytes.length-nodes s exact ∙ sym (framed .count)
-
-  pub tag-at : (i : ℕ) → i < n → getD (tags s) i 0 ≡ getD s (4 + i) 0
-  tag-at i h = getD-take (nodeCount s) (drop 4 s) i 0 (omega (arith, framed .count)) ∙ getD-drop 4 s i 0
-
-  pub argument-at : (i : ℕ) → i < n → getD (arguments s) i 0 ≡ word (getD s (4 + n + 2 * i) 0) (getD s (4 + n + 2 * i + 1) 0)
-  argument-at i h =
-      ap (λ (l : List ℕ). getD l i 0) (bytes.arguments-behind s exact)
-      ∙ getD-words (behind s) i (2 * i) refl (omega (arith, bytes.length-behind s exact, framed .count))
-      ∙ ap₂ word (byte-at (2 * i) low) (byte-at (suc (2 * i)) high)
-    where
-      byte-at : (j : ℕ) {k : ℕ} → 4 + nodeCount s + j ≡ k → getD (behind s) j 0 ≡ getD s k 0
-      byte-at j e = getD-drop (4 + nodeCount s) s j 0 ∙ ap (λ (k : ℕ). getD s k 0) e
-
-      low : 4 + nodeCount s + 2 * i ≡ 4 + n + 2 * i
-      low = omega (arith, framed .count)
-
-      high : 4 + nodeCount s + suc (2 * i) ≡ 4 + n + 2 * i + 1
-      high = omega (arith, framed .count)
 
   -- the tags from i on, and the nodes from i on
   pub tags-step : (i : ℕ) → i < n → drop i (tags s) ≡ getD (tags s) i 0 ∷ drop (suc i) (tags s)

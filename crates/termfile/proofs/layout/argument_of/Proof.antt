@@ -1,7 +1,7 @@
 -- `layout::argument_of` meets its contract: argument i stands 2 i bytes behind the tags, and a framed file reaches so far.
 -- Assumes nothing.
 use mathlib.Core.Path.{sym, _∙_}
-use Rattle.termfile.proofs.Frame.{argument-at}
+use Rattle.termfile.proofs.Frame.{argument-at, exact}
 use native.Mathlib.Omega.{arith}
 use Rattle.termfile.proofs.layout.argument_of.Statement.{statement}
 use Rattle.termfile.proofs.layout.argument_of.Tie as tie
@@ -21,7 +21,7 @@ word-at-requires c κs = omega arith
 returns : tie.Need-returns
 returns c =
     let start = c .before .before in
-    c .word-at .ensures ∙ sym (argument-at (start .pre .0) (start .args .i) (start .pre .1))
+    c .word-at .ensures ∙ sym (argument-at (start .args .file .now) (start .pre .0 .count) (exact (start .pre .0)) (start .args .i) (start .pre .1))
 
 pub argument-of-spec : {M : Type 1} → statement M
 argument-of-spec =
