@@ -35,6 +35,17 @@ fn open_size_explosion() {
     print_notes();
 }
 
+/// About 256 names in use: up to there the library keeps the weights of names in a small array.
+#[test]
+fn names_about_256() {
+    for n in 253..=258 {
+        let r = run(1, &renamings(n), GLOW_BUDGET, Lengths::glow());
+        assert!(matches!(r.outcome, Outcome::Normal(_)));
+        assert_eq!(r.figures.names, 1 + n as u64);
+        assert_eq!(run(1, &open_explosion(n), GLOW_BUDGET, Lengths::glow()).outcome, Outcome::Refused(12));
+    }
+}
+
 /// Equation (4): one beta step and n substs of 2 n + 2 nodes each.
 #[test]
 fn equation_4() {

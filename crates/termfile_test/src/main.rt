@@ -22,6 +22,7 @@ fn main() {
     let got = libc::read(STDIN_FILENO, &mut text);
     let n = io::count(got, &text);
     rows(&text[..n]);
+    middling();
     large();
     large_defects();
 }
@@ -90,6 +91,18 @@ fn changed(name: &[u8], i: usize, tag: u8, argument: usize, length: usize) {
     put_nest(&mut file, Nest::Abstractions, 0, 16384);
     put_node(&mut file, 16384, i, tag, argument);
     report::line(name, &file, length);
+}
+
+// Files of about 256 nodes, the most for which `check` takes small arrays.
+fn middling() {
+    nest(b"0 255 abstractions", Nest::Abstractions, 0, 256);
+    nest(b"0 256 abstractions", Nest::Abstractions, 0, 257);
+    nest(b"0 left parts, 256 nodes", Nest::Left, 0, 256);
+    nest(b"0 left parts, 257 nodes", Nest::Left, 1, 257);
+    nest(b"0 right parts, 256 nodes", Nest::Right, 0, 256);
+    nest(b"0 right parts, 257 nodes", Nest::Right, 1, 257);
+    nest(b"5 left parts, one missing of 257", Nest::Left, 1, 256);
+    nest(b"5 right parts, one missing of 259", Nest::Right, 1, 258);
 }
 
 // The largest files, one that is larger, and some with a defect.
