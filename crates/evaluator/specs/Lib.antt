@@ -1,3 +1,4 @@
 pub mod Calling
+pub mod Final
 pub mod Promise
 pub mod Opening
