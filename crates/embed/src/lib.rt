@@ -7,53 +7,21 @@
 // substs and shifts. Where the file is refused only the number is written.
 use evaluator::Answer;
 use evaluator::Outcome;
-use evaluator::Refusal;
 use evaluator::Report;
 ghost use mathlib.Core.Path.{_≡_};
 ghost use Prim.Native.Nat.{_≤_};
 ghost use lib.ListN.{length};
-ghost use Rattle.termfile.specs.Answer as file;
 ghost use Rattle.machine.specs.Answer.{overlay, report as reported};
-ghost use Rattle.stepping.specs.Choosing.{number};
 ghost use Rattle.evaluator.specs.Calling.{toldOutcome, toldReport};
 ghost use Rattle.evaluator.specs.Promise.{memory};
 ghost use Rattle.embed.specs.Embedding.{outcomeStatus, refusalOf, writtenOf, numbersOf, Embedded};
-
-// The paper's number of a file's refusal.
-fn file_number(why: termfile::Refusal) -> u64
-    ensures { λ q. ⌜ q ≡ file.number why ⌝ }
-{
-    match why {
-        termfile::Refusal::Short => 1,
-        termfile::Refusal::Limits => 2,
-        termfile::Refusal::Length => 3,
-        termfile::Refusal::Tag => 4,
-        termfile::Refusal::Shape => 5,
-        termfile::Refusal::Binder => 6,
-        termfile::Refusal::Variable => 7,
-    }
-}
-
-// The paper's number of a run's refusal.
-fn run_number(why: Refusal) -> u64
-    ensures { λ q. ⌜ q ≡ number why ⌝ }
-{
-    match why {
-        Refusal::Cells => 8,
-        Refusal::Nodes => 9,
-        Refusal::Names => 10,
-        Refusal::Renumber => 11,
-        Refusal::Output => 12,
-        Refusal::Chain => 13,
-    }
-}
 
 // A run's refusal, or 0.
 fn refusal_of(outcome: Outcome) -> u64
     ensures { λ q. ⌜ q ≡ refusalOf (toldOutcome outcome) ⌝ }
 {
     match outcome {
-        Outcome::Refused(why) => run_number(why),
+        Outcome::Refused(why) => stepping::number(why),
         Outcome::Normal(_) => 0,
         Outcome::Spent => 0,
     }
@@ -138,7 +106,7 @@ pub extern "C" fn glow_evaluate(
     );
     match answer {
         Answer::FileRefused(why) => {
-            report[0] = file_number(why);
+            report[0] = termfile::number(why);
             3
         }
         Answer::Ran(r) => {

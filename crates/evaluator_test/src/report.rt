@@ -5,7 +5,6 @@ use crate::kept::kept_words;
 use crate::text::Fill;
 use evaluator::Answer;
 use evaluator::Outcome;
-use evaluator::Refusal;
 use evaluator::Report;
 use libc::STDOUT_FILENO;
 ghost use Prim.Native.Nat.{_≤_};
@@ -69,7 +68,7 @@ struct Left {
 fn write_answer(answer: Answer, out_tags: &[u8; 33000], out_args: &[u16; 33000]) -> Left {
     match answer {
         Answer::FileRefused(why) => {
-            write_number(b": refused ", number_of_file(why));
+            write_number(b": refused ", termfile::number(why));
             Left {
                 stores: true,
                 renumber: true,
@@ -125,33 +124,8 @@ fn write_outcome(outcome: Outcome) {
             io::write_all(STDOUT_FILENO, b": spent");
         }
         Outcome::Refused(why) => {
-            write_number(b": refused ", number_of_run(why));
+            write_number(b": refused ", stepping::number(why));
         }
-    }
-}
-
-// The table's number of a file's refusal.
-fn number_of_file(refusal: termfile::Refusal) -> u64 {
-    match refusal {
-        termfile::Refusal::Short => 1,
-        termfile::Refusal::Limits => 2,
-        termfile::Refusal::Length => 3,
-        termfile::Refusal::Tag => 4,
-        termfile::Refusal::Shape => 5,
-        termfile::Refusal::Binder => 6,
-        termfile::Refusal::Variable => 7,
-    }
-}
-
-// The table's number of a run's refusal.
-fn number_of_run(refusal: Refusal) -> u64 {
-    match refusal {
-        Refusal::Cells => 8,
-        Refusal::Nodes => 9,
-        Refusal::Names => 10,
-        Refusal::Renumber => 11,
-        Refusal::Output => 12,
-        Refusal::Chain => 13,
     }
 }
 

@@ -38,7 +38,7 @@ fn main() {
     );
     match answer {
         Answer::FileRefused(why) => {
-            print_refused(print::file_number(why));
+            print_refused(termfile::number(why));
         }
         Answer::Ran(report) => {
             print_report(report, &out_tags, &out_args);

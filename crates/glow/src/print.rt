@@ -1,33 +1,7 @@
 // The lines that glow prints.
 use evaluator::Outcome;
-use evaluator::Refusal;
 use evaluator::Report;
 use libc::STDOUT_FILENO;
-
-// The paper's number of a file's refusal.
-pub fn file_number(why: termfile::Refusal) -> u64 {
-    match why {
-        termfile::Refusal::Short => 1,
-        termfile::Refusal::Limits => 2,
-        termfile::Refusal::Length => 3,
-        termfile::Refusal::Tag => 4,
-        termfile::Refusal::Shape => 5,
-        termfile::Refusal::Binder => 6,
-        termfile::Refusal::Variable => 7,
-    }
-}
-
-// The paper's number of a run's refusal.
-fn run_number(why: Refusal) -> u64 {
-    match why {
-        Refusal::Cells => 8,
-        Refusal::Nodes => 9,
-        Refusal::Names => 10,
-        Refusal::Renumber => 11,
-        Refusal::Output => 12,
-        Refusal::Chain => 13,
-    }
-}
 
 fn text(s: &[u8]) {
     io::write_all(STDOUT_FILENO, s);
@@ -57,7 +31,7 @@ pub fn print_report(r: Report, tags: &[u8], args: &[u16]) {
             print_counts(r);
         }
         Outcome::Refused(why) => {
-            print_refused(run_number(why));
+            print_refused(stepping::number(why));
             print_counts(r);
         }
     }

@@ -20,7 +20,7 @@ mod tags;
 ghost use mathlib.Core.Path.{_≡_};
 ghost use Prim.Native.Nat.{_≤_};
 ghost use lib.ListN.{length};
-ghost use Rattle.termfile.specs.Answer.{answer, told};
+ghost use Rattle.termfile.specs.Answer.{answer, told, number};
 ghost use Rattle.termfile.specs.File.{freeNames, counts};
 ghost use Rattle.termfile.specs.Passes.{Framed, Tagged};
 use binders::in_order;
@@ -54,6 +54,22 @@ pub struct Counts {
 pub enum Checked {
     Accepted(Counts),
     Refused(Refusal),
+}
+
+// The number that paper 01 gives a refusal. Ruled out, for instance: 7 for a binder in the wrong
+// place (must-fail/binder_is_seven.edit).
+pub fn number(why: Refusal) -> u64
+    ensures { λ r. ⌜ r ≡ number why ⌝ }
+{
+    match why {
+        Refusal::Short => 1,
+        Refusal::Limits => 2,
+        Refusal::Length => 3,
+        Refusal::Tag => 4,
+        Refusal::Shape => 5,
+        Refusal::Binder => 6,
+        Refusal::Variable => 7,
+    }
 }
 
 // The most free names, and the most nodes, that a term file has.

@@ -2,7 +2,6 @@
 use libc::STDOUT_FILENO;
 use termfile::Checked;
 use termfile::Counts;
-use termfile::Refusal;
 
 // Checks the first `length` bytes as a file and writes the line.
 pub fn line(name: &[u8], bytes: &[u8], length: usize) {
@@ -18,25 +17,11 @@ fn answer(file: &[u8]) {
             write_counts(counts);
         }
         Checked::Refused(refusal) => {
-            let number = number_of(refusal);
             io::write_all(STDOUT_FILENO, b": refused ");
-            io::print_decimal(STDOUT_FILENO, number);
+            io::print_decimal(STDOUT_FILENO, termfile::number(refusal));
         }
     }
     io::write_all(STDOUT_FILENO, b"\n");
-}
-
-// The table's number of a refusal.
-fn number_of(refusal: Refusal) -> u64 {
-    match refusal {
-        Refusal::Short => 1,
-        Refusal::Limits => 2,
-        Refusal::Length => 3,
-        Refusal::Tag => 4,
-        Refusal::Shape => 5,
-        Refusal::Binder => 6,
-        Refusal::Variable => 7,
-    }
 }
 
 fn write_counts(counts: Counts) {

@@ -13,7 +13,6 @@ use Rattle.embed.proofs.glow_evaluate.Statement.{statement}
 use Rattle.embed.proofs.glow_evaluate.Tie as tie
 use Rattle.embed.proofs.glow_evaluate.Reads as reads
 use Rattle.embed.proofs.glow_evaluate.Lts as lts
-use Rattle.embed.proofs.file_number.Reads as file-number-reads
 use Rattle.embed.proofs.status_of.Reads as status-of-reads
 use Rattle.embed.proofs.write_report.Reads as write-report-reads
 use Rattle.evaluator.proofs.evaluate.Reads as evaluate-reads
@@ -39,8 +38,8 @@ enum-known-answer : tie.Need-enum-known-answer
 enum-known-answer c = search needs
 
 -- src/lib.rt:129:25
-file-number-requires : tie.Need-file-number-requires
-file-number-requires c κs = search needs
+number-requires : tie.Need-number-requires
+number-requires c κs = search needs
 
 -- src/lib.rt:129:13
 slice-write-report : tie.Need-slice-write-report
@@ -112,7 +111,7 @@ returns-2 c =
       status = λ l. sym (ap statusOf e);
       numbers =
           λ l.
-          rw (c .file-number .ensures)
+          rw (c .number .ensures)
           (sets-eq (number (c .before .before .answer .given .0 .0) ∷ []) (g .args .report .now) 0 (omega arith) ∙ ap (λ v. overlay (numbersOf v) (g .args .report .now)) (sym e));
     }
 
@@ -178,7 +177,7 @@ glow-evaluate-spec =
     returns
     evaluate-requires
     enum-known-answer
-    file-number-requires
+    number-requires
     slice-write-report
     enum-known-answer-2
     write-report-requires
