@@ -11,11 +11,6 @@ use Rattle.embed.specs.Embedding.{statusOf, numbersOf}
 use borrow.Author.Needs.{needs}
 use Rattle.embed.proofs.glow_evaluate.Statement.{statement}
 use Rattle.embed.proofs.glow_evaluate.Tie as tie
-use Rattle.embed.proofs.glow_evaluate.Reads as reads
-use Rattle.embed.proofs.glow_evaluate.Lts as lts
-use Rattle.embed.proofs.status_of.Reads as status-of-reads
-use Rattle.embed.proofs.write_report.Reads as write-report-reads
-use Rattle.evaluator.proofs.evaluate.Reads as evaluate-reads
 
 -- src/lib.rt:122:9
 returns : tie.Need-returns

@@ -9,10 +9,6 @@ use Rattle.embed.specs.Embedding.{numbersOf}
 use borrow.Author.Needs.{needs}
 use Rattle.embed.proofs.write_report.Statement.{statement}
 use Rattle.embed.proofs.write_report.Tie as tie
-use Rattle.embed.proofs.write_report.Reads as reads
-use Rattle.embed.proofs.write_report.Lts as lts
-use Rattle.embed.proofs.refusal_of.Reads as refusal-of-reads
-use Rattle.embed.proofs.written_of.Reads as written-of-reads
 
 -- src/lib.rt:87:17
 refusal-of-requires : tie.Need-refusal-of-requires
