@@ -1,4 +1,4 @@
 pub mod Calling
+pub mod Opening
 pub mod Final
 pub mod Promise
-pub mod Opening
