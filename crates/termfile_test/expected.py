@@ -5,7 +5,7 @@ The rows' names and files are read out of `stdin` and src/main.rt; each answer i
 a second reading of paper 01, "The term file" and "Numbered answers": terms are read left to right,
 with the end of each part known, and scopes are kept as a set of names. The number that each row
 starts with was written by hand, and is compared."""
-import os, re, struct
+import os, re, struct, sys
 
 def refusal(s):
     if len(s) < 4: return 1
@@ -95,5 +95,6 @@ for kind, name, rest in re.findall(r'\b(nest|changed)\(b"([^"]*)", ([^;]*)\);', 
         f, nodes = nest('Abstractions', 0, 16384)
         nodes[int(v[0])] = (int(v[1]), int(v[2]))
         row(name, (file_of(f, nodes) + bytes(4))[:int(v[3])])
-open(os.path.join(here, 'stdout'), 'w').write(''.join(out))
+target = sys.argv[1] if len(sys.argv) > 1 else os.path.join(here, 'stdout')
+open(target, 'w').write(''.join(out))
 print('%d rows' % len(out))

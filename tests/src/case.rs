@@ -158,14 +158,13 @@ mod library {
         if renumber.unchanged_from(0).is_err() {
             match run.outcome {
                 Outcome::Normal(_) => {}
-                Outcome::Refused(12) => note("renumber store changed at refusal 12".into()),
                 _ => return Err(format!("renumber store changed at {:?}", run.outcome)),
             }
         }
         // What a run leaves in the stores it used is free; past what a store counts nothing is used.
         if stores_from(l.nodes() as usize, l.cells() as usize, l.names() as usize).is_err() { note("a store changed past the length that counts".into()); }
         if s.nodes == 0 {
-            if stores_from(0, 0, 0).is_err() { note("stores changed at a loading refusal".into()); }
+            stores_from(0, 0, 0).map_err(|e| format!("a loading refusal: {e}"))?;
         } else if stores_from(s.nodes as usize, s.cells as usize, s.names as usize).is_err() { note("a store changed past what the figures say was taken".into()); }
         if renumber.unchanged_from(s.names as usize).is_err() { note("renumber store changed past the names in use".into()); }
         Ok(())

@@ -1,4 +1,3 @@
 pub mod Calling
-pub mod Opening
 pub mod Final
 pub mod Promise

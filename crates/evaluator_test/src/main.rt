@@ -5,7 +5,7 @@
 // `evaluate` takes them, and the number that fills them; after a semicolon the file. Where the last
 // number is 65536 more, another run is made first, so that the stores hold what it left. The file is x
 // and its bytes, or f and its nodes as the paper writes them, or a capital letter for a family and its
-// size (`build::node_in`). `expected.py` works `stdout` out from the paper.
+// size (`families::node_in`). `expected.py` works `stdout` out from the paper.
 mod build;
 mod families;
 mod kept;

@@ -10,67 +10,51 @@ use borrow.Author.Needs.{needs}
 use Rattle.embed.proofs.write_report.Statement.{statement}
 use Rattle.embed.proofs.write_report.Tie as tie
 
--- src/lib.rt:87:17
 refusal-of-requires : tie.Need-refusal-of-requires
 refusal-of-requires c κs = search needs
 
--- src/lib.rt:87:5
 slice-write-report : tie.Need-slice-write-report
 slice-write-report c = search needs
 
--- src/lib.rt:88:17
 written-of-requires : tie.Need-written-of-requires
 written-of-requires c κs = search needs
 
--- src/lib.rt:88:5
 slice-write-report-2 : tie.Need-slice-write-report-2
 slice-write-report-2 c = simp length-set (omega arith)
 
--- src/lib.rt:89:5
 slice-write-report-3 : tie.Need-slice-write-report-3
 slice-write-report-3 c = simp length-set (omega arith)
 
--- src/lib.rt:90:5
 slice-write-report-4 : tie.Need-slice-write-report-4
 slice-write-report-4 c = simp length-set (omega arith)
 
--- src/lib.rt:91:5
 slice-write-report-5 : tie.Need-slice-write-report-5
 slice-write-report-5 c = simp length-set (omega arith)
 
--- src/lib.rt:92:5
 slice-write-report-6 : tie.Need-slice-write-report-6
 slice-write-report-6 c = simp length-set (omega arith)
 
--- src/lib.rt:93:5
 slice-write-report-7 : tie.Need-slice-write-report-7
 slice-write-report-7 c = simp length-set (omega arith)
 
--- src/lib.rt:94:5
 slice-write-report-8 : tie.Need-slice-write-report-8
 slice-write-report-8 c = simp length-set (omega arith)
 
--- src/lib.rt:95:5
 slice-write-report-9 : tie.Need-slice-write-report-9
 slice-write-report-9 c = simp length-set (omega arith)
 
--- src/lib.rt:96:5
 slice-write-report-10 : tie.Need-slice-write-report-10
 slice-write-report-10 c = simp length-set (omega arith)
 
--- src/lib.rt:97:5
 slice-write-report-11 : tie.Need-slice-write-report-11
 slice-write-report-11 c = simp length-set (omega arith)
 
--- src/lib.rt:98:5
 slice-write-report-12 : tie.Need-slice-write-report-12
 slice-write-report-12 c = simp length-set (omega arith)
 
--- src/lib.rt:82:1
 same-length : tie.Need-same-length
 same-length c = search needs
 
--- src/lib.rt:82:1
 returns : tie.Need-returns
 returns c =
     let g = c .before .before .before in
