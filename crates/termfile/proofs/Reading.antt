@@ -1,7 +1,7 @@
 -- Reading and writing nodes: what is written reads as the code that was written, and a node list that reads as a code is its writing;
 -- the writing of a code has as many nodes of each tag as the code.
 -- Assumes nothing.
-use Prim.Native.Nat.{ℕ, zero, suc, _+_, _<_}
+use Prim.Native.Nat.{ℕ, zero, suc, _+_, _≤_, _<_}
 use mathlib.Core.Path.{_≡_, refl, sym, ap, _∙_}
 use mathlib.Core.Bool.{Bool, true, false, cond, _&&_, and-assoc}
 use mathlib.Core.List.{List, [], _∷_, _++_, map, append-nil, append-assoc, map-append}
@@ -89,6 +89,19 @@ pub size-pos : (c : Code) → 0 < size c
 size-pos (var x) = omega arith
 size-pos (abs x c) = omega arith
 size-pos (app c d) = omega arith
+
+-- a code has no more nodes of one tag than nodes
+only-le : (k t : ℕ) → only k t ≤ 1
+only-le k t = go (eqb t k)
+  where
+    go : (q : Bool) → cond q 1 0 ≤ 1
+    go true = omega arith
+    go false = omega arith
+
+pub weigh-only-le : (k : ℕ) (c : Code) → weigh (only k) c ≤ size c
+weigh-only-le k (var x) = only-le k 0
+weigh-only-le k (abs x c) = omega (arith, only-le k 1, weigh-only-le k c)
+weigh-only-le k (app c d) = omega (arith, only-le k 2, weigh-only-le k c, weigh-only-le k d)
 
 count-append : (k : ℕ) (l m : List ℕ) → count k (l ++ m) ≡ count k l + count k m
 count-append k [] m = omega arith

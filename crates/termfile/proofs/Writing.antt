@@ -14,7 +14,7 @@ use Rattle.termfile.specs.Code.{Code, var, abs, app, size, abstractions,
 use Rattle.termfile.specs.Nodes.{Node, write, read}
 use Rattle.termfile.specs.File.{Bytes, maxFree, maxNodes, codeOf}
 use Rattle.termfile.specs.Canonical.{wordsBytes, fileOf}
-use Rattle.termfile.proofs.Reading.{read-write, length-write, size-pos, known-write}
+use Rattle.termfile.proofs.Reading.{read-write, length-write, size-pos, weigh-only-le, known-write}
 use Rattle.termfile.proofs.Bytes.{freeNames-fileOf, nodeCount-fileOf, length-fileOf, tags-fileOf, nodes-fileOf}
 use Rattle.termfile.proofs.Acceptance.{Accepted}
 
@@ -54,11 +54,6 @@ bytes-fileOf f ns h g p (suc (suc (suc (suc i)))) =
 
 -- A code whose names and sizes are words
 
-abstractions-le : (c : Code) → abstractions c ≤ size c
-abstractions-le (var x) = omega arith
-abstractions-le (abs x c) = omega (arith, abstractions-le c)
-abstractions-le (app c d) = omega (arith, abstractions-le c, abstractions-le d)
-
 name-below : (x f k : ℕ) (around : List ℕ) → f ≤ k → ((y : ℕ) → member y around ≡ true → y < k) → (ltb x f || member x around) ≡ true → x < k
 name-below x f k around h b s = go (ltb x f) refl s
   where
@@ -81,7 +76,7 @@ write-fits (abs x c) f k around n s h b g =
 write-fits (app c d) f k around n s h b g =
     let m = and-eq-true-iff (numbered k c) (numbered (k + abstractions c) d) .0 n in
     let r = and-eq-true-iff (scoped f around c) (scoped f around d) .0 s in
-    let few = abstractions-le c in (
+    let few = weigh-only-le 1 c in (
       omega arith,
       omega arith,
       fits-append (write c) (write d) (write-fits c f k around (m .0) (r .0) h b (omega arith))
