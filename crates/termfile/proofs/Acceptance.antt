@@ -10,7 +10,7 @@ use lib.ListN.{length}
 use borrow.Author.Tests.{leb-true, eqb-true}
 use Rattle.termfile.specs.Code.{Code, weigh, only, size, numbered, scoped}
 use Rattle.termfile.specs.Nodes.{write}
-use Rattle.termfile.specs.File.{maxFree, maxNodes, freeNames, nodeCount, tags, nodes, codeOf, known, holds, unless, longEnough, inLimits, exactLength, tagsKnown, oneTerm, bindersInPlace, variablesInScope, refusal, count}
+use Rattle.termfile.specs.File.{maxFree, maxNodes, freeNames, nodeCount, tags, nodes, codeOf, codeFrom, fileCode, known, holds, unless, longEnough, inLimits, exactLength, tagsKnown, oneTerm, bindersInPlace, variablesInScope, refusal, count}
 use Rattle.termfile.proofs.Reading.{read-is, length-write, count-write}
 use Rattle.termfile.proofs.Bytes.{tags-nodes, length-nodes}
 use Rattle.termfile.proofs.Refusals.{unless-none, framed-refusal}
@@ -71,6 +71,10 @@ module _ {s : List ℕ} (a : Accepted s) where
         a .in-order,
         a .in-scope,
       )
+
+  -- the code that its nodes read as is the code of the file
+  pub code-is : fileCode s ≡ a .code
+  code-is = ap codeFrom (a .is-code)
 
   -- an accepted file's nodes are the writing of its code; so they are as many, of each tag, as the code has
   pub nodes-code : nodes s ≡ write (a .code)

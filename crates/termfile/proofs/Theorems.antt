@@ -15,7 +15,7 @@ use Rattle.termfile.specs.Canonical.{naming, canonical, fileOf}
 use Rattle.termfile.proofs.Loose.{term-whole}
 use Rattle.termfile.proofs.Naming.{naming-meaning, meaning-names, term-naming, naming-numbered, naming-scoped, naming-size}
 use Rattle.termfile.proofs.Bytes.{freeNames-fileOf, file-back}
-use Rattle.termfile.proofs.Acceptance.{Accepted, accepted, accepted-back, nodes-code, size-code, count-code}
+use Rattle.termfile.proofs.Acceptance.{Accepted, accepted, accepted-back, code-is, nodes-code, size-code, count-code}
 use Rattle.termfile.proofs.Writing.{file-code, file-accepted, file-bytes}
 
 -- s is an accepted file with f free names that stands for t
@@ -27,14 +27,14 @@ pub record Stands (f : ℕ) (t : Term) (s : List ℕ) : Type 0 where
 
 -- each accepted file stands for the term of its code
 pub accepted-stands : (s : List ℕ) → Bytes s → (a : Accepted s) → Stands (freeNames s) (termOf (a .code)) s
-accepted-stands s b a = record { bytes = b; accepts = accepted-back a; names = refl; term = ap (λ o. termOf (codeFrom o)) (a .is-code) }
+accepted-stands s b a = record { bytes = b; accepts = accepted-back a; names = refl; term = ap termOf (code-is a) }
 
 module _ {f : ℕ} {t : Term} {s : List ℕ} (stands : Stands f t s) where
   abbrev file : Accepted s
   file = accepted s (stands .accepts)
 
   is-term : termOf (file .code) ≡ t
-  is-term = sym (ap (λ o. termOf (codeFrom o)) (file .is-code)) ∙ stands .term
+  is-term = sym (ap termOf (code-is file)) ∙ stands .term
 
   -- the term has no loose index
   pub stands-whole : Whole t
