@@ -3,7 +3,7 @@
 -- Assumes nothing.
 use Prim.Native.Nat.{ℕ, zero, suc}
 use mathlib.Core.Path.{_≡_, refl, sym, subst, _∙_}
-use mathlib.Core.Bool.{Bool, true, false, _&&_, _||_, false≢true}
+use mathlib.Core.Bool.{Bool, true, false, _||_, and-eq-true-iff, false≢true}
 use mathlib.Core.Logic.{_↔_}
 use mathlib.Core.Option.{Option, none, some, Option·none-ne-some}
 use Rattle.fireball.specs.Term.{Term, free, bound, lam, app}
@@ -24,11 +24,6 @@ mutual
       go true e = refl
       go false e = e
 
--- both halves of a conjunction that holds
-both : (p q : Bool) → (p && q) ≡ true → (p ≡ true) × (q ≡ true)
-both true q e = (refl, e)
-both false q e = absurd (false≢true e)
-
 fireball-of-inert : (t : Term) → (isInert t ≡ true → Inert t) → isFireball t ≡ true → Fireball t
 fireball-of-inert (free x) h e = inert (variable x)
 fireball-of-inert (bound i) h e = absurd (false≢true e)
@@ -40,7 +35,7 @@ inert-of (free x) e = variable x
 inert-of (bound i) e = absurd (false≢true e)
 inert-of (lam t) e = absurd (false≢true e)
 inert-of (app t u) e =
-    let p = both (isInert t) (isFireball u) e in
+    let p = and-eq-true-iff (isInert t) (isFireball u) .0 e in
     applied (inert-of t (p .0)) (fireball-of-inert u (inert-of u) (p .1))
 
 pub fireball-of : (t : Term) → isFireball t ≡ true → Fireball t
