@@ -63,7 +63,8 @@ fn cut<'a>(name: &[u8], numbers: &[u8], other: &'a [u8], bytes: &'a [u8], length
 }
 
 // Makes the arrays, longer than any that a row asks for, and the calls: where it is asked for, one that
-// takes much of the stores; the row's; and the row's on what that left.
+// takes much of the stores; the row's; and the row's on what that left. Each call has an output of its
+// own, so that what is told of it is what the call wrote.
 fn with_arrays<'a>(name: &[u8], numbers: &[u8], other: &'a [u8], file: &'a [u8]) {
     let fill = fill_of(numbers);
     let word = fill.word;
@@ -75,10 +76,10 @@ fn with_arrays<'a>(name: &[u8], numbers: &[u8], other: &'a [u8], file: &'a [u8])
     let mut nexts = [word; 33000];
     let mut places = [word; 33000];
     let mut renumber = [word; 33000];
-    let mut out_tags = [byte; 33000];
-    let mut out_args = [word; 33000];
     let mut round = first_round(fill.dirty);
     while round < 3 {
+        let mut out_tags = [byte; 33000];
+        let mut out_args = [word; 33000];
         let a = length_in(round, numbers, 2);
         let b = length_in(round, numbers, 3);
         let c = length_in(round, numbers, 4);
