@@ -1,0 +1,4 @@
+pub mod Decimal
+pub mod Lines
+pub mod Putting
+pub mod Promise
