@@ -1,3 +1,5 @@
 pub mod Decimal
 pub mod Putting
 pub mod Texts
+pub mod TermLine
+pub mod Promises

@@ -2,11 +2,12 @@
 -- Letters: ts and us are texts, l, l′ and l″ what the array holds.
 -- Assumes nothing.
 use Prim.Native.Nat.{ℕ, suc, _+_}
-use mathlib.Core.Path.{_≡_, ap, _∙_, subst, subst⁻¹}
+use mathlib.Core.Path.{_≡_, refl, sym, ap, _∙_, subst, subst⁻¹}
 use mathlib.Core.List.{List, [], _∷_, _++_}
 use native.Mathlib.Omega.{arith}
-use lib.ListN.{length, set, length-append}
-use lib.Seq.{sets, length-sets, set-comm}
+use lib.ListN.{length, set, drop, length-append}
+use lib.Seq.{sets, length-sets, sets-eq, set-comm}
+use Rattle.machine.specs.Answer.{overlay}
 use Rattle.rendering.specs.Putting.{Room, Put}
 
 -- stores of one text and then of another behind it
@@ -23,6 +24,9 @@ sets-last (u ∷ ts) t at l =
     (set-comm l (at + suc (length ts)) at t u (λ e. omega arith) ∙ ap (λ k. set (set l at u) k t) (omega arith))
     ∙ sets-last ts t (suc at) (set l at u)
 
+pub put-nothing : {at : ℕ} {l : List ℕ} → Put [] at l at l
+put-nothing = record { next-is = omega arith; array-is = refl }
+
 pub put-then : {ts us : List ℕ} {at next end : ℕ} {l l′ l″ : List ℕ} → Put ts at l next l′ → Put us next l′ end l″ → Put (ts ++ us) at l end l″
 put-then {ts} {us} {at} {next} {end} {l} p q =
     record {
@@ -30,6 +34,16 @@ put-then {ts} {us} {at} {next} {end} {l} p q =
       array-is =
           q .array-is ∙ ap (λ m. sets m next us) (p .array-is) ∙ ap (λ k. sets (sets l at ts) k us) (p .next-is)
           ∙ sets-append ts us at l;
+    }
+
+-- what is left of a text once its beginning is put
+pub put-rest : {ts us : List ℕ} {at next end : ℕ} {l l′ l″ : List ℕ} → Put (ts ++ us) at l end l″ → Put ts at l next l′ → Put us next l′ end l″
+put-rest {ts} {us} {at} {next} {end} {l} w p =
+    record {
+      next-is = omega (arith, w .next-is, p .next-is, length-append ts us);
+      array-is =
+          w .array-is ∙ sym (sets-append ts us at l) ∙ ap (λ k. sets (sets l at ts) k us) (sym (p .next-is))
+          ∙ ap (λ m. sets m next us) (sym (p .array-is));
     }
 
 -- room for a text and another behind it is room for the first, and for the second once the first is put
@@ -46,3 +60,9 @@ room-as {at = at} {l = l} e h = subst (λ ts. Room ts at l) e h
 
 pub put-as : {ts us : List ℕ} {at next : ℕ} {l l′ : List ℕ} → us ≡ ts → Put ts at l next l′ → Put us at l next l′
 put-as {at = at} {next = next} {l = l} {l′ = l′} e p = subst⁻¹ (λ ts. Put ts at l next l′) e p
+
+-- a text that is put at the front is laid over the array
+pub put-front : {ts : List ℕ} {next : ℕ} {l l′ : List ℕ} → Room ts 0 l → Put ts 0 l next l′ → l′ ≡ overlay ts l
+put-front {ts} {next} {l} h p =
+    let e : 0 + length ts ≡ length ts = omega arith in
+    p .array-is ∙ sets-eq ts l 0 (h .fits) ∙ ap (λ k. ts ++ drop k l) e

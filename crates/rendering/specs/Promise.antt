@@ -38,9 +38,9 @@ abbrev pub Tellable : Answer → List ℕ → List ℕ → Type 0
 Tellable (number-alone k) ts ms = Unit {0}
 Tellable (report r) ts ms = Possible r ts ms
 
--- no text is longer: 16,384 nodes of at most 7 bytes each, the other words, and 11 numbers of at most 20 digits
+-- no text is longer: 16,384 nodes take at most 7 bytes each, which is 114,688, and all the rest at most 312
 abbrev pub longestText : ℕ
-longestText = 114972
+longestText = 115000
 
 pub record Renders (a : Answer) (ts ms : List ℕ) (q : Rendered) (l l′ : List ℕ) : Type 0 where
   -- an array that is long enough begins with the lines of the answer afterwards, and nothing past them changes

@@ -1,10 +1,13 @@
--- What putting a text into an array promises. Letters: ts is the text, l what the array holds before and l′ after, ms are arguments.
+-- What putting a text into an array promises. Letters: ts is the text, l what the array holds before and l′ after, and of
+-- nodes ts are the tags and ms the arguments.
 use Prim.Native.Nat.{ℕ, _+_, _≤_}
 use mathlib.Core.Path.{_≡_}
-use mathlib.Core.List.{List, [], _∷_}
+use mathlib.Core.List.{List, [], _∷_, map}
 use lib.ListN.{length}
 use lib.Seq.{sets}
+use Rattle.termfile.specs.File.{pairs}
 use Rattle.rendering.specs.Decimal.{decimal}
+use Rattle.rendering.specs.Lines.{spaced, nodeWord}
 
 -- the text fits into the array from the place `at` on
 pub record Room (ts : List ℕ) (at : ℕ) (l : List ℕ) : Type 0 where
@@ -15,7 +18,11 @@ pub record Put (ts : List ℕ) (at : ℕ) (l : List ℕ) (next : ℕ) (l′ : Li
   pub next-is : next ≡ at + length ts
   pub array-is : l′ ≡ sets l at ts
 
--- the bytes that nodes with these arguments take in a term line: a space, a letter and the digits of each
-abbrev pub argumentBytes : List ℕ → ℕ
-argumentBytes [] = 0
-argumentBytes (m ∷ ms) = 2 + length (decimal m) + argumentBytes ms
+-- the nodes with these tags and arguments in a term line, each with a space before it
+abbrev pub nodesText : List ℕ → List ℕ → List ℕ
+nodesText ts ms = spaced (map nodeWord (pairs ts ms))
+
+-- the bytes that they take: a space, a letter and the digits of each argument
+abbrev pub nodesBytes : List ℕ → ℕ
+nodesBytes [] = 0
+nodesBytes (m ∷ ms) = 2 + length (decimal m) + nodesBytes ms
