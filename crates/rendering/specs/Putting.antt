@@ -1,6 +1,6 @@
--- What putting a text into an array promises. Letters: ts is the text, l what the array holds before and l′ after, and of
+-- What the parts of rendering promise: putting a text into an array, and the sum of the shifting steps. Letters: ts is the text, l what the array holds before and l′ after, and of
 -- nodes ts are the tags and ms the arguments.
-use Prim.Native.Nat.{ℕ, _+_, _≤_}
+use Prim.Native.Nat.{ℕ, _+_, _^_, _≤_, _<_}
 use mathlib.Core.Path.{_≡_}
 use mathlib.Core.List.{List, [], _∷_, map}
 use lib.ListN.{length}
@@ -8,6 +8,8 @@ use lib.Seq.{sets}
 use Rattle.termfile.specs.File.{pairs}
 use Rattle.rendering.specs.Decimal.{decimal}
 use Rattle.rendering.specs.Lines.{spaced, nodeWord}
+use Rattle.rendering.specs.declared.Shifts.{Shifts}
+use Rattle.rendering.specs.declared.Shifts.the-variants.{Sum, TooMany}
 
 -- the text fits into the array from the place `at` on
 pub record Room (ts : List ℕ) (at : ℕ) (l : List ℕ) : Type 0 where
@@ -26,3 +28,8 @@ nodesText ts ms = spaced (map nodeWord (pairs ts ms))
 abbrev pub nodesBytes : List ℕ → ℕ
 nodesBytes [] = 0
 nodesBytes (m ∷ ms) = 2 + length (decimal m) + nodesBytes ms
+
+-- the number, or that it needs more than 64 bits
+abbrev pub SumFor : Shifts → ℕ → Type 0
+SumFor (Sum k) n = (k ≡ n) × (n < 2 ^ 64)
+SumFor TooMany n = 2 ^ 64 ≤ n

@@ -17,11 +17,12 @@ use report::report_bytes;
 use words::put_count;
 ghost use mathlib.Core.Path.{_≡_};
 ghost use mathlib.Core.List.{List};
-ghost use Prim.Native.Nat.{ℕ, _^_, _≤_, _<_};
+ghost use Prim.Native.Nat.{ℕ};
 ghost use Rattle.machine.specs.Answer.{number-alone, report as reported};
 ghost use Rattle.evaluator.specs.Calling.{told, toldOutcome, toldReport};
-ghost use Rattle.rendering.specs.Promise.{nodesWritten, Renders};
 ghost use Rattle.rendering.specs.Lines.{shiftSum};
+ghost use Rattle.rendering.specs.Promise.{nodesWritten, Renders};
+ghost use Rattle.rendering.specs.Putting.{SumFor};
 
 // What rendering returns: so many bytes are written; the array is too short for the text; or no call gives
 // the answer.
@@ -38,8 +39,7 @@ enum Shifts {
 }
 
 fn shifts_of(r: Report) -> Shifts
-    ensures sum { λ q. ⌜ (shiftSum (toldReport r) < 2 ^ 64 → q ≡ Shifts.Sum (shiftSum (toldReport r))) ⌝ }
-    ensures over { λ q. ⌜ (2 ^ 64 ≤ shiftSum (toldReport r) → q ≡ Shifts.TooMany) ⌝ }
+    ensures { λ q. ⌜ SumFor q (shiftSum (toldReport r)) ⌝ }
 {
     if r.leave_fun > u64::MAX - r.leave_inert {
         return Shifts::TooMany;

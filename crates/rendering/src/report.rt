@@ -39,7 +39,11 @@ fn counts_bytes(r: Report, shifts: u64) -> usize
     ensures exact { λ q. ⌜ q ≡ length (countLines (toldReport r)) ⌝ }
     ensures few { λ q. ⌜ q ≤ 272 ⌝ }
 {
-    let steps = width(r.beta) + width(r.subst) + width(r.enter) + width(r.leave_fun) + width(r.leave_inert);
+    let steps = width(r.beta)
+        + width(r.subst)
+        + width(r.enter)
+        + width(r.leave_fun)
+        + width(r.leave_inert);
     let allowed = width(r.subst_allowance) + width(shifts) + width(r.shift_allowance);
     let taken = width(r.nodes as u64) + width(r.cells as u64) + width(r.names as u64);
     52 + steps + allowed + taken

@@ -1,47 +1,46 @@
+-- `render` meets its contract, by the cases of the answer.
+-- Assumes nothing.
+use mathlib.Core.Path.{sym, ap, _∙_, subst⁻¹}
+use Rattle.machine.specs.Answer.{number-alone}
+use Rattle.evaluator.specs.Calling.{told}
 use borrow.Author.Needs.{needs}
+use Rattle.rendering.specs.Promise.{Renders}
 use Rattle.rendering.proofs.render.Statement.{statement}
 use Rattle.rendering.proofs.render.Tie as tie
-use Rattle.rendering.proofs.render.Reads as reads
-use Rattle.rendering.proofs.render.Lts as lts
-use Rattle.rendering.proofs.render_number.Reads as render-number-reads
-use Rattle.rendering.proofs.render_report.Reads as render-report-reads
-use Rattle.termfile.proofs.number.Reads as number-reads
 
--- src/lib.rt:111:29
 enum-known-answer : tie.Need-enum-known-answer
 enum-known-answer c = search needs
 
--- src/lib.rt:111:51
 number-requires : tie.Need-number-requires
 number-requires c κs = search needs
 
--- src/lib.rt:111:37
 render-number-requires : tie.Need-render-number-requires
 render-number-requires c κs = search needs
 
--- src/lib.rt:112:21
 enum-known-answer-2 : tie.Need-enum-known-answer-2
 enum-known-answer-2 c = search needs
 
--- src/lib.rt:112:32
 render-report-requires : tie.Need-render-report-requires
 render-report-requires c κs = search needs
 
--- src/lib.rt:107:1
 same-length : tie.Need-same-length
 same-length c = search needs
 
--- src/lib.rt:107:1
 returns : tie.Need-returns
-returns c = ?
+returns c =
+    let args = c .before .before .before .before .before .before .before .before .before .before .before .args in
+    let k = c .before .before .before .before .before .before .answer .given in
+    subst⁻¹ (λ a. Renders a (args .tags .now) (args .args .now) (c .before .before .render-number .result) (args .out .now) (c .before .before .render-number .last .1 .0))
+    (ap told (k .1) ∙ ap number-alone (sym (c .before .before .before .before .number .ensures))) (c .before .before .render-number .ensures (args .tags .now) (args .args .now))
 
--- src/lib.rt:107:1
 same-length-2 : tie.Need-same-length-2
 same-length-2 c = search needs
 
--- src/lib.rt:107:1
 returns-2 : tie.Need-returns-2
-returns-2 c = ?
+returns-2 c =
+    let args = c .before .before .before .before .before .before .before .before .before .before .args in
+    subst⁻¹ (λ a. Renders (told a) (args .tags .now) (args .args .now) (c .before .before .render-report .result) (args .out .now) (c .before .before .render-report .last .1 .1 .1 .0))
+    (c .before .before .before .before .before .answer2 .given .1) (c .before .before .render-report .ensures)
 
 pub render-spec : {M : Type 1} → statement M
 render-spec =

@@ -22,8 +22,13 @@ returns-3 c =
 returns-4 : tie.Need-returns-4
 returns-4 c =
     let n = c .before .before .before .args .n in
-    omega (arith, decimal-length-above n (omega arith), decimal-length-above (n / 10) (omega arith), decimal-length-above (n / 10 / 10) (omega arith),
-      decimal-length-below (n / 10 / 10 / 10) (omega arith))
+    omega (
+      arith,
+      decimal-length-above n (omega arith),
+      decimal-length-above (n / 10) (omega arith),
+      decimal-length-above (n / 10 / 10) (omega arith),
+      decimal-length-below (n / 10 / 10 / 10) (omega arith),
+    )
 
 pub width-below-spec : {M : Type 1} → statement M
 width-below-spec = tie.close (tie.spec returns returns-2 returns-3 returns-4)

@@ -75,19 +75,24 @@ add-result-3 c = search needs
 
 returns : tie.Need-returns
 returns c =
-    let s = c .before .before .before .before .before .before .before .before .before .before .before in
-    (omega (arith, counts-length (toldReport (s .args .r)) (s .args .shifts) (s .pre),
-      c .before .before .before .before .before .before .before .before .before .before .width .ensures .0,
-      c .before .before .before .before .before .before .before .before .before .width2 .ensures .0,
-      c .before .before .before .before .before .before .before .before .width3 .ensures .0,
-      c .before .before .before .before .before .before .before .width4 .ensures .0,
-      c .before .before .before .before .before .before .width5 .ensures .0,
-      c .before .before .before .before .before .width6 .ensures .0,
-      c .before .before .before .before .width7 .ensures .0,
-      c .before .before .before .width8 .ensures .0,
-      c .before .before .width9 .ensures .0,
-      c .before .width10 .ensures .0,
-      c .width11 .ensures .0), omega arith)
+    let s = c .before .before .before .before .before .before .before .before .before .before .before in (
+      omega (
+        arith,
+        counts-length (toldReport (s .args .r)) (s .args .shifts) (s .pre),
+        c .before .before .before .before .before .before .before .before .before .before .width .ensures .0,
+        c .before .before .before .before .before .before .before .before .before .width2 .ensures .0,
+        c .before .before .before .before .before .before .before .before .width3 .ensures .0,
+        c .before .before .before .before .before .before .before .width4 .ensures .0,
+        c .before .before .before .before .before .before .width5 .ensures .0,
+        c .before .before .before .before .before .width6 .ensures .0,
+        c .before .before .before .before .width7 .ensures .0,
+        c .before .before .before .width8 .ensures .0,
+        c .before .before .width9 .ensures .0,
+        c .before .width10 .ensures .0,
+        c .width11 .ensures .0,
+      ),
+      omega arith,
+    )
 
 pub counts-bytes-spec : {M : Type 1} → statement M
 counts-bytes-spec =

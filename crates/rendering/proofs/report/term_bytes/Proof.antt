@@ -29,12 +29,12 @@ enum-told-3 c = search needs
 returns : tie.Need-returns
 returns c = (
   λ tags e.
-  omega (
-    arith,
-    c .nodes-bytes .ensures .0,
-    term-length tags (c .before .before .before .before .args .args .now) e,
-    ap (λ o. length (termLine (toldOutcome o) (pairs tags (c .before .before .before .before .args .args .now)))) (c .before .enum-told .given .1),
-  ),
+      omega (
+        arith,
+        c .nodes-bytes .ensures .0,
+        term-length tags (c .before .before .before .before .args .args .now) e,
+        ap (λ o. length (termLine (toldOutcome o) (pairs tags (c .before .before .before .before .args .args .now)))) (c .before .enum-told .given .1),
+      ),
   omega arith,
 )
 
