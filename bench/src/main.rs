@@ -8,8 +8,10 @@
 //!
 //!     cargo run --release -p glow-bench            (--no-default-features: the plain machine alone)
 //!     cargo run --release -p glow-bench -- --instructions
-//!     bench/run.sh                                 both, kept in bench/last.txt
+//!     cargo run --release -p glow-bench -- --text  (the program; GLOW_BIN names another)
+//!     bench/run.sh                                 all three, kept in bench/last.txt
 mod instructions;
+mod text;
 
 use glow_tests::families::*;
 use glow_tests::flat::*;
@@ -147,8 +149,9 @@ fn work() {
     match words.first().map(String::as_str) {
         None => time_table(),
         Some("--instructions") => instructions::table(),
+        Some("--text") => text::table(),
         Some("--calls") => instructions::make_calls(&words[1..]),
-        Some(other) => { eprintln!("glow-bench: {other} is not known; there is --instructions"); std::process::exit(2) }
+        Some(other) => { eprintln!("glow-bench: {other} is not known; there are --instructions and --text"); std::process::exit(2) }
     }
 }
 

@@ -10,4 +10,5 @@ pub mod flat;
 pub mod machine;
 pub mod painted;
 pub mod prng;
+pub mod process;
 pub mod random;
