@@ -58,7 +58,7 @@ try() {
     run_tests || status=$?
     different=$(assertions)
     if [ "$status" -eq 0 ]; then echo "$name: SURVIVED"; wrong=$((wrong + 1))
-    elif [ "$different" -gt 0 ]; then echo "$name: caught by an assertion ($different tests)"; by_assertion=$((by_assertion + 1))
+    elif [ "$different" -gt 0 ]; then echo "$name: caught by an assertion, tests that failed: $different"; by_assertion=$((by_assertion + 1))
     elif [ "$status" -eq 124 ]; then echo "$name: caught by the time limit alone"; by_time=$((by_time + 1))
     else echo "$name: caught by a crash alone"; by_crash=$((by_crash + 1)); fi
 }

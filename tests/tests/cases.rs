@@ -170,3 +170,19 @@ fn null_and_length_0() {
     for kind in [0, 1, 8, 9, 10, 11, 12, 14] { assert!(seen[kind] > 0, "outcome {kind}"); }
     print_notes();
 }
+
+/// Each case after each other one, with the stores as that one left them: entries that are there and mean nothing any more.
+#[cfg(feature = "library")]
+#[test]
+fn stores_as_the_last_call_left_them() {
+    let texts = [(1, "v0"), (0, "l0 v0"), (1, C), (0, D), (1, "a1 v0 v0"), (1, FF), (0, J), (2, "a1 v0 l2 v2"), (0, "a2 l0 l1 v0 l2 l3 v2")];
+    let lengths = Lengths::of(200, 100, 100, 100, 100);
+    let mut stores = glow::Stores::new(200, 100, 100, 100, 100);
+    for first in texts {
+        for (f, text) in texts {
+            stores.evaluate_on_this_stack(&from_text(first.0, first.1).file(), 50);
+            let file = from_text(f, text).file();
+            assert_eq!(glow_tests::case::told(f, stores.evaluate_on_this_stack(&file, 50)), evaluate(&file, 50, &lengths), "{text} after {}", first.1);
+        }
+    }
+}
