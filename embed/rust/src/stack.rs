@@ -21,7 +21,8 @@
 
 use std::ops::Range;
 
-/// Bytes of stack that a call takes whatever the stores are: for arrays of its own, and the first level of counting and writing.
+/// Bytes of stack that a call takes whatever the stores are: for arrays of its own, the first level of counting and
+/// writing, and the C library where it binds a name at its first use.
 pub const STACK_FOR_A_CALL: usize = 106_496;
 
 /// Bytes of stack that each further level of counting or writing takes.
