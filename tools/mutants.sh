@@ -137,4 +137,4 @@ try "scope: any binder before will do" "while around.last().is_some_and(|&(_, e)
 try "an argument of an application unchecked" "if at != k + 1 { return 5; }" "if at > 99_000 { return 5; }"
 
 echo "$faults faults: $by_assertion caught by an assertion, $by_crash by a crash alone, $by_time by the time limit alone; $wrong not put in or not caught"
-[ "$wrong" -eq 0 ]
+[ "$wrong" -eq 0 ] && [ "$faults" -gt 0 ]

@@ -12,8 +12,9 @@
 //! [`Stores::evaluate`] may be called on any thread. Where the thread may have too little stack for what the stores can
 //! hold, the call is made on another one: see [`stack_needed`].
 //!
-//! `unsafe` are the one call of the C function, which is lent slices that are live for the whole call, each with its own
-//! length, and never two that overlap; and, on Linux, three calls of the C library that tell where a thread's stack ends.
+//! Two places are `unsafe`: the one call of the C function, which is lent slices that are live for the whole call, each
+//! with its own length, and never two that overlap; and, on Linux, calls of the C library that tell where a thread's
+//! stack ends.
 
 mod stack;
 
