@@ -4,8 +4,9 @@
 //!
 //! The library counts a result before it writes it. Both walk over codes and along chains of names in loops, and call
 //! themselves where a name has an entry to be unfolded, or an item has a stack of its own and is not the last of its
-//! stack. Each such call passes through a cell of its own, as a number that starts at the cells taken falls; that it
-//! never falls below 0 is proved. And each has four nodes of the node store to itself.
+//! stack. There are no more such calls inside one another than cells: with each a number that starts at the cells taken
+//! falls, and it is proved that it does not fall below 0. Nor are there more than one for each four nodes, as each has
+//! four nodes of the node store to itself. This is argued here, and tested, but not proved.
 //!
 //! For a node that a run takes is part of exactly one code that its state holds, or has been used up by exactly one
 //! enter, beta or subst: each of these removes the first node of the code, a leave moves a code, and the nodes of a copy
