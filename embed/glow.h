@@ -48,9 +48,19 @@ enum glow_tag { GLOW_VARIABLE = 0, GLOW_ABSTRACTION = 1, GLOW_APPLICATION = 2 };
 #define GLOW_MOST_FILE_NODES 16384  /* n of a term file, and nodes written out */
 #define GLOW_MOST_COUNTED 32768     /* counted of the node, cell and name stores */
 
-/* Writing a result calls itself, at most once for each entry or item it passes through, 500 bytes of
-   stack each: 2.3 MB at most with the program's stores, 4.3 MB with the largest. Call it where there is
-   a stack of 8 MiB. No two arrays may overlap. A pointer may be anything when its length is 0, except null. */
+/* Stack. A call takes at most GLOW_STACK_NEEDED(nodes, cells) bytes, where nodes is the shorter length of tags
+   and args, and cells the shortest of codes, owns and nexts: 2,072,576 with the program's stores, and
+   GLOW_MOST_STACK_NEEDED, 4,038,656, with the largest. For counting and writing a result call themselves, no
+   deeper than there are cells, nor than one for each four nodes. On a thread with less a term that is nested
+   deeply enough overflows the stack, which ends the process. */
+#define GLOW_STACK_FOR_A_CALL 106496
+#define GLOW_STACK_FOR_A_LEVEL 480
+#define GLOW_LESS(a, b) ((size_t)(a) < (size_t)(b) ? (size_t)(a) : (size_t)(b))
+#define GLOW_STACK_NEEDED(nodes, cells) \
+    (GLOW_STACK_FOR_A_CALL + GLOW_STACK_FOR_A_LEVEL * GLOW_LESS(cells, GLOW_LESS(nodes, GLOW_MOST_COUNTED) / 4))
+#define GLOW_MOST_STACK_NEEDED GLOW_STACK_NEEDED(GLOW_MOST_COUNTED, GLOW_MOST_COUNTED)
+
+/* No two arrays may overlap. Where a length is 0 the pointer may be anything, null too. */
 uint32_t glow_evaluate(
     const uint8_t *file, size_t file_len, uint32_t budget,
     uint8_t *tags, size_t tags_len, uint16_t *args, size_t args_len,            /* node store */

@@ -1,43 +1,121 @@
-#!/bin/sh
-# Tries the tests' strength: the plain machine with one thing wrong at a time is put in the library's
-# place, and the tests must fail. Works in a copy; the library itself is not touched.
+#!/usr/bin/env bash
+# Tries the tests' strength: the plain machine with one thing wrong at a time is put in the library's place, and the tests must fail.
+# Works in a copy; the library itself is not touched.
 #   tools/mutants.sh [SCRATCH]        ONLY=word tries only the faults with this word in their names
-set -e
+# A fault is caught by an assertion where a test compared two things and found them different, and else by a crash, or by the
+# time limit. Exit status 0: the machine with nothing wrong passes, and each fault was put in, compiled and caught.
+set -euo pipefail
 cd "$(dirname "$0")/.."
 here=$PWD
 scratch=${1:-$here/target/mutants}
 mkdir -p "$scratch/lib"
 rm -rf "$scratch/src" && mkdir -p "$scratch/src"
-cp -r Cargo.toml Cargo.lock embed tests bench tools examples "$scratch/src/" 2>/dev/null || true
+cp -r Cargo.toml Cargo.lock embed tests bench tools examples "$scratch/src/"
 cd "$scratch/src"
-export CARGO_TARGET_DIR="$scratch/target" GLOW_LIB_DIR="$scratch/lib" GLOW_RANDOM_TERMS=3000
-try() {
-    name=$1; from=$2; to=$3
-    case "$name" in *"$ONLY"*) ;; *) return ;; esac
+export CARGO_TARGET_DIR="$scratch/target" GLOW_LIB_DIR="$scratch/lib" GLOW_RANDOM_TERMS=3000 RUST_BACKTRACE=0
+seconds=180
+faults=0 by_assertion=0 by_crash=0 by_time=0 wrong=0
+
+# Builds the archive from the plain machine with each FROM, which must occur, replaced by its TO. Says why not, if not.
+build() {
     cp "$here/bench/plain/src/lib.rs" bench/plain/src/lib.rs
-    python3 - "$from" "$to" <<'P' || { echo "$name: the place was not found"; return; }
+    python3 - "$@" <<'P' || { echo "the place was not found"; return 1; }
 import sys
-s = open("bench/plain/src/lib.rs").read()
-if sys.argv[1] not in s: sys.exit(1)
-open("bench/plain/src/lib.rs", "w").write(s.replace(sys.argv[1], sys.argv[2], 1))
+path = "bench/plain/src/lib.rs"
+text = open(path).read()
+for old, new in zip(sys.argv[1::2], sys.argv[2::2]):
+    if old not in text: sys.exit(1)
+    text = text.replace(old, new, 1)
+open(path, "w").write(text)
 P
-    cargo build -q --release -p mock 2> "$scratch/log" || { echo "$name: does not compile"; return; }
+    cargo build -q --release --offline -p mock 2> "$scratch/log" || { echo "does not compile"; return 1; }
     cp "$scratch/target/release/libembed.a" "$scratch/lib/"
-    if timeout 120 cargo test -q --release -p glow-tests --test cases --test demand3 --test families --test random > "$scratch/log" 2>&1; then echo "$name: SURVIVED"; else
-        echo "$name: caught ($(grep -c -E '^    [a-z_0-9:]+$' "$scratch/log") tests failed)"; fi
 }
-try "nothing wrong (must survive)" "fn word" "fn word"
-try "budget before asking whether a step fits" "            match s.tags[code] {
+
+# Runs the tests that look at answers, with 6 GiB of memory at most; their status.
+run_tests() (
+    ulimit -v 6291456
+    timeout "$seconds" cargo test -q --release --offline --no-fail-fast -p glow-tests --test cases --test demand3 --test families --test random > "$scratch/log" 2>&1
+)
+
+# How many tests failed because two things were different.
+assertions() {
+    python3 - "$scratch/log" <<'P'
+import re, sys
+log = open(sys.argv[1], errors="replace").read()
+failed = re.findall(r"^---- (\S+) stdout ----\n(.*?)(?=^---- |^failures:)", log, re.M | re.S)
+print(sum("DISAGREEMENT" in said or "assertion" in said for _, said in failed))
+P
+}
+
+# try NAME FROM TO [FROM TO]..: a fault, which the tests must find.
+try() {
+    local name=$1 why status=0 different
+    shift
+    case "$name" in *"${ONLY-}"*) ;; *) return ;; esac
+    faults=$((faults + 1))
+    why=$(build "$@") || { echo "$name: $why"; wrong=$((wrong + 1)); return; }
+    run_tests || status=$?
+    different=$(assertions)
+    if [ "$status" -eq 0 ]; then echo "$name: SURVIVED"; wrong=$((wrong + 1))
+    elif [ "$different" -gt 0 ]; then echo "$name: caught by an assertion, tests that failed: $different"; by_assertion=$((by_assertion + 1))
+    elif [ "$status" -eq 124 ]; then echo "$name: caught by the time limit alone"; by_time=$((by_time + 1))
+    else echo "$name: caught by a crash alone"; by_crash=$((by_crash + 1)); fi
+}
+
+why=$(build) || { echo "the plain machine $why"; exit 1; }
+if run_tests; then echo "nothing wrong: passes"; else echo "nothing wrong: FAILED, see $scratch/log"; exit 1; fi
+
+# Where entries are wrong, a name or a stack may be a part of itself. To unfold it would not end; it is given up as too long.
+ends=("sums.push(0);" "if sums.len() > names { return None; } sums.push(0);"
+    "                    *sums.last_mut().unwrap() += 1;
+                    work.push" "                    if work.len() > 99_999 { return None; }
+                    *sums.last_mut().unwrap() += 1;
+                    work.push")
+
+# the traps of paper 01, in its order
+try "trap 1: an inert entry copied at subst, the answer right and the bounds lost" "                                subst += 1;
+                                continue;
+                            }
+" "                                subst += 1;
+                                continue;
+                            }
+                            // the entry is y with one item d, both names alone: the code is y d once more
+                            let own = s.owns[e as usize - 1] as usize;
+                            if own != 0 && s.nexts[own - 1] == 0 && s.owns[own - 1] == 0 && s.tags[s.codes[own - 1] as usize] == 0 {
+                                if steps == budget as u64 { break 'run 100; }
+                                if nodes + 3 > cap { break 'run 9; }
+                                let (y, d) = (s.args[from], s.args[s.codes[own - 1] as usize]);
+                                s.tags[nodes..nodes + 3].copy_from_slice(&[2, 0, 0]);
+                                s.args[nodes..nodes + 3].copy_from_slice(&[1, y, d]);
+                                code = nodes;
+                                nodes += 3;
+                                subst += 1;
+                                continue;
+                            }
+"
+try "trap 2: a copy keeps its old binder names" "x = x - z + names" "x = x + 0 * names" "${ends[@]}"
+try "trap 3: a stop where subst is due with dump and stack empty" "if s.tags[from] == 1 {" "if s.tags[from] == 1 && (dump != 0 || stack != 0) {"
+try "trap 4: the budget before asking whether a step fits" "            match s.tags[code] {
                 2 =>" "            if steps == budget as u64 { break 'run 100; }
             match s.tags[code] {
                 2 =>"
-try "copy keeps its old binder names" "x = x - z + names" "x = x + 0 * names"
-try "a stop where subst is due with dump and stack empty" "if s.tags[from] == 1 {" "if s.tags[from] == 1 && (dump != 0 || stack != 0) {"
+try "trap 5: the output written as it is unfolded, then found too long" \
+    "    if sums[0] > room as u64 { return None; }
+" "" \
+    "                    s.out_tags[n] = 2;
+                    n += 1;" "                    if n == room { return None; }
+                    s.out_tags[n] = 2;
+                    n += 1;" \
+    "2 => { s.out_tags[n]" "2 => { if n == room { return None; } s.out_tags[n]" \
+    "1 => { s.out_tags[n]" "1 => { if n == room { return None; } s.out_tags[n]" \
+    "_ => { s.out_tags[n]" "_ => { if n == room { return None; } s.out_tags[n]"
+
 try "10 before 9 at loading" "if n > cap { nodes = 0; names = 0; break 'run 9; }" "if names0 > names_cap { nodes = 0; names = 0; break 'run 10; } if n > cap { nodes = 0; names = 0; break 'run 9; }"
 try "10 before 9 at subst" "if nodes + size > cap { break 'run 9; }" "if names + binders > names_cap { break 'run 10; } if nodes + size > cap { break 'run 9; }"
 try "12 before 11" "if s.renumber.len() < names { break 'run 11; }" ""
-try "names not cleared at loading" "s.places[..names].fill(0);" ""
-try "names not cleared at subst" "s.places[names..names + binders].fill(0);" ""
+try "names not cleared at loading" "s.places[..names].fill(0);" "" "${ends[@]}"
+try "names not cleared at subst" "s.places[names..names + binders].fill(0);" "" "${ends[@]}"
 try "off by one in the node store" "if nodes + size > cap" "if nodes + size >= cap"
 try "off by one in the output" "if sums[0] > room as u64" "if sums[0] >= room as u64"
 # (a limit of 32,767 on cells could not be seen: a node store of 32,768 has at most 16,383 applications)
@@ -57,3 +135,6 @@ try "leave kinds swapped" "if t == 1 { fun += 1 } else { inert += 1 }" "if t == 
 try "the binder check is skipped" "if arg(k) != next { return 6; }" ""
 try "scope: any binder before will do" "while around.last().is_some_and(|&(_, e)| e <= k) { around.pop(); }" ""
 try "an argument of an application unchecked" "if at != k + 1 { return 5; }" "if at > 99_000 { return 5; }"
+
+echo "$faults faults: $by_assertion caught by an assertion, $by_crash by a crash alone, $by_time by the time limit alone; $wrong not put in or not caught"
+[ "$wrong" -eq 0 ] && [ "$faults" -gt 0 ]

@@ -4,7 +4,8 @@
 //! and NOT cleared between calls, the same for both. A call is load, run and, at normal, writing the
 //! result. "all" is such a call; "run" is the same call with one step less of budget, so that it
 //! ends spent and writes no result. A time is the best of fifteen short rounds, and the two sides take
-//! their rounds by turns, so that a machine that slows down for a while slows both.
+//! their rounds by turns, so that a machine that slows down for a while slows both. The library is called as it is, on
+//! the stack that is there; what the wrapper's care for the stack costs is measured apart, after the table.
 //!
 //!     cargo run --release -p glow-bench            (--no-default-features: the plain machine alone)
 //!     cargo run --release -p glow-bench -- --instructions
@@ -41,11 +42,21 @@ fn plain_call(s: &mut Arrays, file: &[u8], budget: u32) -> [u64; 12] {
 #[cfg(feature = "library")]
 fn library_call(s: &mut Arrays, file: &[u8], budget: u32) -> [u64; 12] {
     let mut report = [0; 12];
-    glow::evaluate_in(file, budget, &mut s.tags, &mut s.args, &mut s.codes, &mut s.owns, &mut s.nexts, &mut s.places, &mut s.renumber, &mut s.out_tags, &mut s.out_args, &mut report);
+    glow::evaluate_in_on_this_stack(file, budget, &mut s.tags, &mut s.args, &mut s.codes, &mut s.owns, &mut s.nexts, &mut s.places, &mut s.renumber, &mut s.out_tags, &mut s.out_args, &mut report);
     report
 }
 #[cfg(not(feature = "library"))]
 fn library_call(_: &mut Arrays, _: &[u8], _: u32) -> [u64; 12] { [0; 12] }
+
+/// As `library_call`, by the call of the wrapper that may be made on any thread.
+#[cfg(feature = "library")]
+fn careful_call(s: &mut Arrays, file: &[u8], budget: u32) -> [u64; 12] {
+    let mut report = [0; 12];
+    glow::evaluate_in(file, budget, &mut s.tags, &mut s.args, &mut s.codes, &mut s.owns, &mut s.nexts, &mut s.places, &mut s.renumber, &mut s.out_tags, &mut s.out_args, &mut report);
+    report
+}
+#[cfg(not(feature = "library"))]
+fn careful_call(_: &mut Arrays, _: &[u8], _: u32) -> [u64; 12] { [0; 12] }
 
 /// Terms with `free` free names, one for each size; a term that stands alone has one size, which says nothing.
 struct Family { name: &'static str, free: usize, sizes: &'static [usize], make: fn(usize) -> Flat }
@@ -144,10 +155,23 @@ fn time_table() {
     }
 }
 
+/// What it costs that a call of the wrapper may be made on any thread: where there is stack enough it only looks, and
+/// else the call is made on a thread of its own.
+fn care_rows() {
+    let file = canonical(1, &renamings(1)).file();
+    for (what, bytes) in [("64 MiB", 64 << 20), ("2 MiB", 2 << 20)] {
+        let work = || {
+            let [bare, careful] = times(&mut Arrays::largest(), &file, [(library_call, WHOLE), (careful_call, WHOLE)]);
+            println!("a file of 4 nodes, on a stack of {what}: {:.3} microseconds as it is, {:.3} by the call for any thread", bare * 1e6, careful * 1e6);
+        };
+        std::thread::scope(|scope| std::thread::Builder::new().stack_size(bytes).spawn_scoped(scope, work).unwrap().join().unwrap());
+    }
+}
+
 fn work() {
     let words: Vec<String> = std::env::args().skip(1).collect();
     match words.first().map(String::as_str) {
-        None => time_table(),
+        None => { time_table(); if cfg!(feature = "library") { care_rows(); } }
         Some("--instructions") => instructions::table(),
         Some("--text") => text::table(),
         Some("--calls") => instructions::make_calls(&words[1..]),

@@ -10,12 +10,15 @@ pub struct Case<'a> {
     /// what the stores hold before: 0 zeros, 1 all ones, 2 small numbers, else random from this seed
     pub garbage: u64,
     pub report_len: usize,
+    /// whether an array of length 0 is lent by a null pointer, as C programs do
+    pub nulls: bool,
 }
 
 impl<'a> Case<'a> {
-    pub fn new(file: &'a [u8], budget: u32, lengths: Lengths) -> Case<'a> { Case { file, budget, lengths, garbage: 7, report_len: 12 } }
+    pub fn new(file: &'a [u8], budget: u32, lengths: Lengths) -> Case<'a> { Case { file, budget, lengths, garbage: 7, report_len: 12, nulls: false } }
     pub fn glow(file: &'a [u8]) -> Case<'a> { Case { garbage: 0, ..Case::new(file, crate::machine::GLOW_BUDGET, Lengths::glow()) } }
     pub fn garbage(mut self, g: u64) -> Self { self.garbage = g; self }
+    pub fn nulls(mut self) -> Self { self.nulls = true; self }
     /// The second machine's answer, after the library's has been compared with it. Panics on a difference.
     pub fn check(&self) -> Answer {
         let answer = evaluate(self.file, self.budget, &self.lengths);
@@ -25,8 +28,8 @@ impl<'a> Case<'a> {
     pub fn check_against(&self, answer: &Answer) {
         if let Err(why) = compare(self, answer) {
             let shown: Vec<String> = self.file.iter().take(400).map(|b| format!("{b:02x}")).collect();
-            panic!("DISAGREEMENT: {why}\n budget {} lengths {:?} garbage {} report_len {}\n second implementation: {}\n file ({} bytes): {}",
-                self.budget, self.lengths, self.garbage, self.report_len, crate::machine::printed(answer), self.file.len(), shown.join(" "));
+            panic!("DISAGREEMENT: {why}\n budget {} lengths {:?} garbage {} report_len {} nulls {}\n second implementation: {}\n file ({} bytes): {}",
+                self.budget, self.lengths, self.garbage, self.report_len, self.nulls, crate::machine::printed(answer), self.file.len(), shown.join(" "));
         }
     }
 }
@@ -93,6 +96,78 @@ mod library {
         }
     }
 
+    /// The C function as a C program calls it that lends a null pointer for an array of length 0.
+    #[allow(clippy::too_many_arguments)]
+    fn with_nulls(
+        file: &[u8], budget: u32, tags: &mut [u8], args: &mut [u16], codes: &mut [u16], owns: &mut [u16], nexts: &mut [u16], places: &mut [u16],
+        renumber: &mut [u16], out_tags: &mut [u8], out_args: &mut [u16], report: &mut [u64],
+    ) -> glow::Status {
+        extern "C" {
+            fn glow_evaluate(
+                file: *const u8, file_len: usize, budget: u32, tags: *mut u8, tags_len: usize, args: *mut u16, args_len: usize,
+                codes: *mut u16, codes_len: usize, owns: *mut u16, owns_len: usize, nexts: *mut u16, nexts_len: usize,
+                places: *mut u16, places_len: usize, renumber: *mut u16, renumber_len: usize,
+                out_tags: *mut u8, out_tags_len: usize, out_args: *mut u16, out_args_len: usize, report: *mut u64, report_len: usize,
+            ) -> u32;
+        }
+        fn start<T>(s: &mut [T]) -> *mut T { if s.is_empty() { std::ptr::null_mut() } else { s.as_mut_ptr() } }
+        // SAFETY: each pointer is to a slice that is borrowed alone, as long as is said, or is null with the length 0, which glow.h allows.
+        let number = unsafe {
+            glow_evaluate(
+                if file.is_empty() { std::ptr::null() } else { file.as_ptr() }, file.len(), budget, start(tags), tags.len(), start(args), args.len(),
+                start(codes), codes.len(), start(owns), owns.len(), start(nexts), nexts.len(),
+                start(places), places.len(), start(renumber), renumber.len(),
+                start(out_tags), out_tags.len(), start(out_args), out_args.len(), start(report), report.len(),
+            )
+        };
+        use glow::Status::*;
+        [Normal, Spent, Refused, FileRefused, ReportTooShort][number as usize]
+    }
+
+    /// The wrapper's answer in the second implementation's own words; f is the file's count of free names.
+    pub fn told(f: usize, a: glow::Answer) -> Answer {
+        use crate::flat::Canonical;
+        use crate::machine::{Counts, Figures, Run};
+        match a {
+            glow::Answer::FileRefused(n) => Answer::FileRefused(n.number()),
+            glow::Answer::Ran { outcome, report: r } => Answer::Ran(Run {
+                outcome: match outcome {
+                    glow::Outcome::Normal { term } => Outcome::Normal(Canonical { f, tags: term.tags, args: term.args }),
+                    glow::Outcome::Spent => Outcome::Spent,
+                    glow::Outcome::Refused(n) => Outcome::Refused(n.number()),
+                },
+                counts: Counts { beta: r.beta, subst: r.subst, enter: r.enter, leave_fun: r.leave_fun, leave_inert: r.leave_inert },
+                figures: Figures { nodes: r.nodes, cells: r.cells, names: r.names },
+                subst_allowance: r.subst_allowance, shift_allowance: r.shift_allowance,
+            }),
+        }
+    }
+
+    /// Calls of the wrapper's `evaluate` that need much stack, for `tests/threads.rs` to make on small ones: a long chain of
+    /// renamings, and the deepest terms for glow's stores and for the largest. Each answer is compared.
+    pub fn deep_calls() {
+        use crate::families::{abstraction_chain, longest_copied_abstraction_chain, renamings};
+        use crate::flat::canonical;
+        use crate::machine::GLOW_BUDGET;
+        let (glow, largest) = (Lengths::glow(), Lengths::largest());
+        for (f, term, lengths, mut stores) in [
+            (1, renamings(5461), glow, glow::Stores::glow()),
+            (0, abstraction_chain(4095), glow, glow::Stores::glow()),
+            (0, longest_copied_abstraction_chain(32_768), largest, glow::Stores::largest()),
+            (0, abstraction_chain(1), Lengths::of(6, 1, 3, 3, 3), glow::Stores::new(6, 1, 3, 3, 3)),
+        ] {
+            let file = canonical(f, &term).file();
+            let answer = evaluate(&file, GLOW_BUDGET, &lengths);
+            assert!(matches!(answer.run().outcome, Outcome::Normal(_)));
+            assert_eq!(told(f, stores.evaluate(&file, GLOW_BUDGET)), answer);
+            let s = &mut stores;
+            let mut report = [0; 12];
+            let status = glow::evaluate_in(&file, GLOW_BUDGET, &mut s.tags, &mut s.args, &mut s.codes, &mut s.owns, &mut s.nexts, &mut s.places,
+                &mut s.renumber, &mut s.out_tags, &mut s.out_args, &mut report);
+            assert_eq!((status, report[2]), (glow::Status::Normal, answer.run().counts.beta));
+        }
+    }
+
     fn note(what: String) { *NOTES.lock().unwrap().entry(what).or_default() += 1; }
 
     pub(super) fn compare(case: &Case, answer: &Answer) -> Result<(), String> {
@@ -110,7 +185,8 @@ mod library {
         let mut out_args: Lent<u16> = Lent::new("out_args", l.out_args, if g == 0 { 0 } else { 9 }, &mut r);
         let mut report: Lent<u64> = Lent::new("report", case.report_len, 9, &mut r);
         let file = case.file.to_vec();
-        let status = glow::evaluate_in(
+        let call = if case.nulls { with_nulls } else { glow::evaluate_in_on_this_stack };
+        let status = call(
             case.file, case.budget, tags.slice(), args.slice(), codes.slice(), owns.slice(), nexts.slice(), places.slice(),
             renumber.slice(), out_tags.slice(), out_args.slice(), report.slice(),
         );

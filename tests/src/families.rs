@@ -150,6 +150,13 @@ pub fn longest_copied_chain(link: &Flat, weight: usize, nodes: usize, leaf: &Fla
     }
     (best.0, copied_chain(link, best.1, best.2, leaf.clone()))
 }
+/// The longest such chain of abstractions behind entries. A copy of its body takes 4 nodes for each link and 2 more; the
+/// application to it 2; and the abstraction that it gets is copied once, with 2.
+pub fn longest_copied_abstraction_chain(nodes: usize) -> Flat {
+    let outer = |inner: usize| (nodes - 4 - (4 * inner + 2)) / (4 * inner + 6);
+    let inner = (1..400).max_by_key(|&inner| inner * outer(inner)).unwrap();
+    copied_chain(&link_abstraction(), inner, outer(inner), id())
+}
 /// t_n with the longest chain of renamings in place of y: 2^n leaves, each at the chain's far end.
 pub fn slow_to_write(n: usize, nodes: usize) -> (usize, Flat) {
     let (links, chain) = longest_copied_chain(&link_rename(), 1, nodes, &v(Y));

@@ -141,3 +141,48 @@ fn lengths_beyond_sixteen_bits() {
         for report_len in [0, 1, 11, 12, 13, 65_536, 65_540] { Case { report_len, ..Case::new(&sound, 50, Lengths::glow()) }.check(); }
     }
 }
+
+/// Null with the length 0, as C programs lend an array that they have not: for each array, for all of a store, and for all at once.
+#[test]
+fn null_and_length_0() {
+    type Emptied = fn(&mut Lengths);
+    let empty: [Emptied; 15] = [
+        |_| {}, |l| l.tags = 0, |l| l.args = 0, |l| l.codes = 0, |l| l.owns = 0, |l| l.nexts = 0, |l| l.places = 0, |l| l.renumber = 0, |l| l.out_tags = 0, |l| l.out_args = 0,
+        |l| (l.tags, l.args) = (0, 0), |l| (l.codes, l.owns, l.nexts) = (0, 0, 0), |l| (l.out_tags, l.out_args) = (0, 0), |l| (l.places, l.renumber) = (0, 0), |l| *l = Lengths::of(0, 0, 0, 0, 0),
+    ];
+    let mut seen = [0u64; 15];
+    for (f, text) in [(1, "v0"), (0, "l0 v0"), (1, C), (0, D), (1, "a1 v0 v0"), (1, FF), (0, J)] {
+        let sound = from_text(f, text).file();
+        for file in [&sound[..], &sound[..3], &[]] {
+            for empty in empty {
+                for lengths in [Lengths::glow(), Lengths::of(13, 3, 5, 5, 4)] {
+                    let mut lengths = lengths;
+                    empty(&mut lengths);
+                    for budget in [0, 1, 2, 3, 4, 10, 1000] {
+                        for garbage in [0, 1, 99] { seen[Case::new(file, budget, lengths).garbage(garbage).nulls().check().kind()] += 1; }
+                        for report_len in [0, 11] { Case { report_len, ..Case::new(file, budget, lengths) }.nulls().check(); }
+                    }
+                }
+            }
+        }
+    }
+    // normal, spent, no file, and each store that may be empty
+    for kind in [0, 1, 8, 9, 10, 11, 12, 14] { assert!(seen[kind] > 0, "outcome {kind}"); }
+    print_notes();
+}
+
+/// Each case after each other one, with the stores as that one left them: entries that are there and mean nothing any more.
+#[cfg(feature = "library")]
+#[test]
+fn stores_as_the_last_call_left_them() {
+    let texts = [(1, "v0"), (0, "l0 v0"), (1, C), (0, D), (1, "a1 v0 v0"), (1, FF), (0, J), (2, "a1 v0 l2 v2"), (0, "a2 l0 l1 v0 l2 l3 v2")];
+    let lengths = Lengths::of(200, 100, 100, 100, 100);
+    let mut stores = glow::Stores::new(200, 100, 100, 100, 100);
+    for first in texts {
+        for (f, text) in texts {
+            stores.evaluate_on_this_stack(&from_text(first.0, first.1).file(), 50);
+            let file = from_text(f, text).file();
+            assert_eq!(glow_tests::case::told(f, stores.evaluate_on_this_stack(&file, 50)), evaluate(&file, 50, &lengths), "{text} after {}", first.1);
+        }
+    }
+}

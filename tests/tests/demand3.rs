@@ -27,6 +27,7 @@ fn watch(f: usize, t: &Flat, budget: u32, most_nodes: u64, with_steps: bool) -> 
         assert!(m.counts.shift() <= shift_allowance, "the bound of shift");
         assert!(m.counts.leave_fun + m.counts.leave_inert <= m.counts.enter);
         assert_eq!(m.figures.cells, m.counts.enter);
+        assert_eq!(m.held() + m.counts.enter + m.counts.beta + m.counts.subst, m.figures.nodes, "each node taken is held once or was used up once");
         assert!(!m.odd_entry(), "refusal 13, of which no example is known");
         prefixes.push((m.counts, m.figures, subst_allowance, shift_allowance));
         if too_large { return; }

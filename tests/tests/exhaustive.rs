@@ -40,7 +40,7 @@ fn all_of(f: usize, most: usize) {
                 let less = |x: usize| x.saturating_sub(1);
                 for lengths in [just, Lengths { args: less(just.args), ..just }, Lengths { nexts: less(just.nexts), ..just }, Lengths { places: less(just.places), ..just },
                     Lengths { renumber: less(just.renumber), ..just }, Lengths { out_tags: less(just.out_tags), ..just }, Lengths::of(n, 1, f + 1, f + 1, 1)] {
-                    kinds[Case::new(&file, steps, lengths).garbage(1).check().kind()] += 1;
+                    kinds[Case::new(&file, steps, lengths).garbage(1).nulls().check().kind()] += 1;
                     cases += 1;
                 }
             }

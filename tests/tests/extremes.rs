@@ -1,4 +1,4 @@
-//! The extremes of size and nesting, on a painted stack of 8 MiB, with the deepest use printed.
+//! The extremes of size and nesting, on a painted stack of 8 MiB: the right answer, and no more stack than is told.
 use glow_tests::case::{Case, LIBRARY};
 use glow_tests::families::*;
 use glow_tests::flat::*;
@@ -82,7 +82,11 @@ fn on_eight_mebibytes() {
             let entry = match &run.outcome { Outcome::Normal(t) => format!("normal, {} nodes", t.tags.len()), other => format!("{other:?}") };
             println!("{name}, {which}: {entry}; steps {} store {} {} {}; stack {}", run.counts.steps(), run.figures.nodes, run.figures.cells, run.figures.names,
                 used.map_or("-".into(), |u| format!("{} bytes", u.saturating_sub(none))));
-            if let Some(u) = used { if u > deepest.0 { deepest = (u, format!("{name}, {which}")); } }
+            if let Some(u) = used {
+                let told = told(&lengths);
+                assert!(u - none <= told, "{} bytes of stack, and {told} are told", u - none);
+                if u > deepest.0 { deepest = (u, format!("{name}, {which}")); }
+            }
         }
     }
     if LIBRARY { println!("deepest use of the stack by the library: {} bytes ({} with the thread's own) at {}", deepest.0.saturating_sub(none), deepest.0, deepest.1); }
@@ -93,9 +97,14 @@ fn library_use(file: &[u8], l: &Lengths) -> Option<usize> {
     let mut stores = glow::Stores::new(l.tags, l.codes, l.places, l.renumber, l.out_tags);
     let mut report = [0u64; 12];
     Some(on_stack(8 << 20, || {
-        glow::evaluate_in(file, GLOW_BUDGET, &mut stores.tags, &mut stores.args, &mut stores.codes, &mut stores.owns, &mut stores.nexts,
+        glow::evaluate_in_on_this_stack(file, GLOW_BUDGET, &mut stores.tags, &mut stores.args, &mut stores.codes, &mut stores.owns, &mut stores.nexts,
             &mut stores.places, &mut stores.renumber, &mut stores.out_tags, &mut stores.out_args, &mut report);
     }))
 }
+/// The stack that the wrapper tells for these stores.
+#[cfg(feature = "library")]
+fn told(l: &Lengths) -> usize { glow::stack_needed(l.nodes() as usize, l.cells() as usize) }
+#[cfg(not(feature = "library"))]
+fn told(_: &Lengths) -> usize { 0 }
 #[cfg(not(feature = "library"))]
 fn library_use(_: &[u8], _: &Lengths) -> Option<usize> { None }

@@ -40,24 +40,8 @@ fn terms_tool() {
 #[cfg(feature = "library")]
 mod library {
     use super::*;
-    use glow_tests::flat::{canonical, from_text};
-
-    /// The wrapper's answer in the second implementation's own words.
-    fn told(f: usize, a: glow::Answer) -> Answer {
-        match a {
-            glow::Answer::FileRefused(n) => Answer::FileRefused(n.number()),
-            glow::Answer::Ran { outcome, report: r } => Answer::Ran(Run {
-                outcome: match outcome {
-                    glow::Outcome::Normal { term } => Outcome::Normal(glow_tests::flat::Canonical { f, tags: term.tags, args: term.args }),
-                    glow::Outcome::Spent => Outcome::Spent,
-                    glow::Outcome::Refused(n) => Outcome::Refused(n.number()),
-                },
-                counts: Counts { beta: r.beta, subst: r.subst, enter: r.enter, leave_fun: r.leave_fun, leave_inert: r.leave_inert },
-                figures: Figures { nodes: r.nodes, cells: r.cells, names: r.names },
-                subst_allowance: r.subst_allowance, shift_allowance: r.shift_allowance,
-            }),
-        }
-    }
+    use glow_tests::case::told;
+    use glow_tests::flat::from_text;
 
     /// One Stores, never cleared, for all calls: what the stores held before changes nothing.
     #[test]
@@ -69,13 +53,11 @@ mod library {
                 let f = u16::from_le_bytes([file[0], file[1]]) as usize;
                 let want = evaluate(&file, GLOW_BUDGET, &Lengths::glow());
                 assert_eq!(told(f, stores.evaluate(&file, GLOW_BUDGET)), want);
-                assert_eq!(told(f, stores.evaluate_deep(&file, GLOW_BUDGET)), want);
+                assert_eq!(told(f, stores.evaluate_on_this_stack(&file, GLOW_BUDGET)), want);
                 for budget in 0..40 { assert_eq!(told(f, stores.evaluate(&file, budget)), evaluate(&file, budget, &Lengths::glow())); }
             }
             for bytes in [&[1, 0, 1][..], &[0, 0, 0, 0], &[1, 0, 1, 0, 0], &[1, 0, 1, 0, 3, 0, 0]] { assert_eq!(told(0, stores.evaluate(bytes, 9)), evaluate(bytes, 9, &Lengths::glow())); }
         }
-        let deep = canonical(1, &glow_tests::families::right_nested(8191, 0)).file();
-        assert_eq!(told(1, stores.evaluate_deep(&deep, GLOW_BUDGET)), evaluate(&deep, GLOW_BUDGET, &Lengths::glow()));
         let glow::Answer::Ran { outcome: glow::Outcome::Normal { term }, .. } = stores.evaluate(&from_text(1, "a6 l1 a1 v1 a1 v0 v1 l2 v2").file(), 100) else { panic!() };
         assert_eq!(term.to_string(), "a1 v0 l1 v1");
         assert_eq!(term.to_file(1), from_text(1, "a1 v0 l1 v1").file());
@@ -89,17 +71,33 @@ mod library {
         assert_eq!(String::from_utf8_lossy(&ran.stdout), "a1 v0 v0, beta 1\n");
     }
 
-    /// Compiles embed/example.c with cc as C and, where there is one, the header as C++, and runs it.
-    #[test]
-    fn the_c_example() {
+    /// What a C program prints that is compiled with the header and the library.
+    fn printed_by(source: &Path, name: &str) -> String {
         let lib = std::env::var("GLOW_LIB_DIR").unwrap_or_else(|_| root().join("target/staticlib").display().to_string());
-        let out = std::env::temp_dir().join(format!("glow-example-{}", std::process::id()));
-        let cc = Command::new("cc").args(["-std=c99", "-Wall", "-Wextra", "-Werror", "-pedantic", "-I"]).arg(root().join("embed")).arg(root().join("embed/example.c"))
+        let out = std::env::temp_dir().join(format!("glow-{name}-{}", std::process::id()));
+        let cc = Command::new("cc").args(["-std=c99", "-Wall", "-Wextra", "-Werror", "-pedantic", "-I"]).arg(root().join("embed")).arg(source)
             .arg(Path::new(&lib).join("libembed.a")).args(["-o"]).arg(&out).args(["-lpthread", "-ldl", "-lm"]).output().unwrap();
         assert!(cc.status.success(), "cc: {}", String::from_utf8_lossy(&cc.stderr));
         let ran = Command::new(&out).output().unwrap();
         let _ = std::fs::remove_file(&out);
         assert!(ran.status.success());
-        assert_eq!(String::from_utf8_lossy(&ran.stdout), "status 0 refusal 0 beta 1 term a1 v0 v0\n");
+        String::from_utf8(ran.stdout).unwrap()
+    }
+
+    #[test]
+    fn the_c_example() {
+        assert_eq!(printed_by(&root().join("embed/example.c"), "example"), "status 0 refusal 0 beta 1 term a1 v0 v0\n");
+    }
+
+    /// The stack that the header tells is the wrapper's, and a C program may lend null for what it has not.
+    #[test]
+    fn the_header() {
+        let mut told = String::new();
+        let lengths = [0, 1, 3, 4, 7, 8, 63, 64, 1000, 16_384, 32_767, 32_768, 32_772, 100_000];
+        for nodes in lengths { for cells in lengths { told += &format!("{nodes} {cells} {}\n", glow::stack_needed(nodes, cells)); } }
+        told += &format!("{} {}\n", glow::Stores::glow().stack_needed(), glow::MOST_STACK_NEEDED);
+        // a report that is too short, no file, no nodes, and a file that needs no cell
+        told += "4\n3 1\n2 9\n0 1\n";
+        assert_eq!(printed_by(&root().join("tests/header.c"), "header"), told);
     }
 }

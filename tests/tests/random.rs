@@ -1,5 +1,5 @@
 //! Random cases, seeded: sound and damaged files, lengths and budgets around what is needed,
-//! garbage in the stores, reports of all lengths.
+//! garbage in the stores, reports of all lengths, null pointers to what is empty.
 use glow_tests::case::{print_notes, Case};
 use glow_tests::flat::canonical;
 use glow_tests::machine::*;
@@ -23,7 +23,8 @@ fn cases(seed: u64, terms: usize) {
             let budget = random::budget(&mut r, &full, MOST);
             let garbage = match r.below(8) { 0 => 0, 1 => 1, 2 => 2, _ => r.next() };
             let report_len = match r.below(40) { 0 => r.below(12), 1 => 13, 2 => 20, _ => 12 };
-            let a = Case { file: &file, budget, lengths, garbage, report_len }.check();
+            let nulls = garbage % 2 == 1;
+            let a = Case { file: &file, budget, lengths, garbage, report_len, nulls }.check();
             kinds[a.kind()] += 1;
             done += 1;
         }

@@ -9,10 +9,18 @@
 //! }
 //! ```
 //!
-//! The only `unsafe` is the one call in [`evaluate_in`]: the C function is lent slices that are
-//! live for the whole call, each with its own length, and never two that overlap.
+//! [`Stores::evaluate`] may be called on any thread. Where the thread may have too little stack for what the stores can
+//! hold, the call is made on another one: see [`stack_needed`].
+//!
+//! Two places are `unsafe`: the one call of the C function, which is lent slices that are live for the whole call, each
+//! with its own length, and never two that overlap; and, on Linux, calls of the C library that tell where a thread's
+//! stack ends.
+
+mod stack;
 
 use std::fmt;
+
+pub use stack::{stack_needed, MOST_STACK_NEEDED, STACK_FOR_A_CALL, STACK_FOR_A_LEVEL};
 
 /// Elements of the report array.
 pub const REPORT_LEN: usize = 12;
@@ -35,11 +43,6 @@ mod ffi {
         ) -> u32;
     }
 }
-
-/// Stack that a call may need: the library's unfolding of the result calls itself once for each
-/// argument inside an argument and each entry behind an entry. A new thread of Rust's standard
-/// library has only 2 MiB; terms nested thousands deep need more. See [`Stores::evaluate_deep`].
-pub const STACK_FOR_ANY_TERM: usize = 16 << 20;
 
 /// What the call itself says.
 #[derive(Clone, Copy, Debug, PartialEq, Eq)]
@@ -168,19 +171,31 @@ impl Stores {
     /// The longest stores of which everything is counted.
     pub fn largest() -> Stores { Stores::new(32_768, 32_768, 32_768, 32_768, 16_384) }
 
-    /// As [`Stores::evaluate`], in a thread of its own with a stack that is enough for every term.
-    pub fn evaluate_deep(&mut self, file: &[u8], budget: u32) -> Answer {
-        std::thread::scope(|scope| {
-            std::thread::Builder::new().stack_size(STACK_FOR_ANY_TERM).spawn_scoped(scope, || self.evaluate(file, budget))
-                .expect("a thread").join().expect("glow does not panic")
-        })
+    /// The most bytes of stack that a call with these stores takes: see [`stack_needed`].
+    pub fn stack_needed(&self) -> usize {
+        stack_needed(self.tags.len().min(self.args.len()), self.codes.len().min(self.owns.len()).min(self.nexts.len()))
     }
 
-    /// Evaluates a term file with at most `budget` steps. On a thread with a small stack a term
-    /// nested thousands deep needs [`Stores::evaluate_deep`].
+    /// Evaluates a term file with at most `budget` steps, on any thread. Where less stack is left than
+    /// [`Stores::stack_needed`] tells, or it is not known how much, the call is made on a thread of its own.
+    ///
+    /// # Panics
+    ///
+    /// Where such a thread cannot be started, as [`std::thread::spawn`] does. Whoever rules that out gives the thread
+    /// the stack that is needed, and may then call [`Stores::evaluate_on_this_stack`].
     pub fn evaluate(&mut self, file: &[u8], budget: u32) -> Answer {
+        stack::with_stack(self.stack_needed(), || self.evaluate_on_this_stack(file, budget))
+    }
+
+    /// As [`Stores::evaluate`], on the thread that it is called on, however little stack that has.
+    ///
+    /// # Warning
+    ///
+    /// Where less than [`Stores::stack_needed`] is left, a term that is nested deeply enough **ends the process**: the
+    /// stack overflows, which no caller can catch. A thread of Rust's standard library has 2 MiB.
+    pub fn evaluate_on_this_stack(&mut self, file: &[u8], budget: u32) -> Answer {
         let mut raw = [0u64; REPORT_LEN];
-        let status = evaluate_in(
+        let status = evaluate_in_on_this_stack(
             file, budget, &mut self.tags, &mut self.args, &mut self.codes, &mut self.owns,
             &mut self.nexts, &mut self.places, &mut self.renumber, &mut self.out_tags,
             &mut self.out_args, &mut raw,
@@ -205,9 +220,26 @@ impl Stores {
     }
 }
 
-/// The call as it is, on slices of any lengths and with the report as raw numbers.
+/// The call on slices of any lengths and with the report as raw numbers, on any thread, as [`Stores::evaluate`] is.
 #[allow(clippy::too_many_arguments)]
 pub fn evaluate_in(
+    file: &[u8], budget: u32, tags: &mut [u8], args: &mut [u16], codes: &mut [u16], owns: &mut [u16],
+    nexts: &mut [u16], places: &mut [u16], renumber: &mut [u16], out_tags: &mut [u8],
+    out_args: &mut [u16], report: &mut [u64],
+) -> Status {
+    let needed = stack_needed(tags.len().min(args.len()), codes.len().min(owns.len()).min(nexts.len()));
+    stack::with_stack(needed, || evaluate_in_on_this_stack(
+        file, budget, tags, args, codes, owns, nexts, places, renumber, out_tags, out_args, report,
+    ))
+}
+
+/// The call as it is, on slices of any lengths and with the report as raw numbers.
+///
+/// # Warning
+///
+/// As of [`Stores::evaluate_on_this_stack`]: with less stack than [`stack_needed`] tells it may **end the process**.
+#[allow(clippy::too_many_arguments)]
+pub fn evaluate_in_on_this_stack(
     file: &[u8], budget: u32, tags: &mut [u8], args: &mut [u16], codes: &mut [u16], owns: &mut [u16],
     nexts: &mut [u16], places: &mut [u16], renumber: &mut [u16], out_tags: &mut [u8],
     out_args: &mut [u16], report: &mut [u64],

@@ -1,0 +1,27 @@
+/* Prints the stack that glow.h tells for stores of many lengths, and makes calls with null pointers. */
+#include "glow.h"
+#include <stdio.h>
+
+int main(void) {
+    const size_t lengths[] = {0, 1, 3, 4, 7, 8, 63, 64, 1000, 16384, 32767, 32768, 32772, 100000};
+    const uint8_t variable[] = {1, 0, 1, 0, 0, 0, 0};
+    const size_t count = sizeof lengths / sizeof *lengths;
+    uint8_t tag = 9, out_tag = 9;
+    uint16_t arg = 9, place = 9, number = 9, out_arg = 9;
+    uint64_t report[GLOW_REPORT_LEN];
+    uint32_t status;
+
+    for (size_t i = 0; i < count; i++)
+        for (size_t k = 0; k < count; k++)
+            printf("%zu %zu %zu\n", lengths[i], lengths[k], GLOW_STACK_NEEDED(lengths[i], lengths[k]));
+    printf("%zu %zu\n", GLOW_STACK_NEEDED(16384, 16384), GLOW_MOST_STACK_NEEDED);
+
+    printf("%u\n", glow_evaluate(NULL, 0, 5, NULL, 0, NULL, 0, NULL, 0, NULL, 0, NULL, 0, NULL, 0, NULL, 0, NULL, 0, NULL, 0, NULL, 0));
+    status = glow_evaluate(NULL, 0, 5, NULL, 0, NULL, 0, NULL, 0, NULL, 0, NULL, 0, NULL, 0, NULL, 0, NULL, 0, NULL, 0, report, GLOW_REPORT_LEN);
+    printf("%u %u\n", status, (unsigned)report[GLOW_REFUSAL]);
+    status = glow_evaluate(variable, sizeof variable, 5, NULL, 0, NULL, 0, NULL, 0, NULL, 0, NULL, 0, NULL, 0, NULL, 0, NULL, 0, NULL, 0, report, GLOW_REPORT_LEN);
+    printf("%u %u\n", status, (unsigned)report[GLOW_REFUSAL]);
+    status = glow_evaluate(variable, sizeof variable, 5, &tag, 1, &arg, 1, NULL, 0, NULL, 0, NULL, 0, &place, 1, &number, 1, &out_tag, 1, &out_arg, 1, report, GLOW_REPORT_LEN);
+    printf("%u %u\n", status, (unsigned)report[GLOW_WRITTEN]);
+    return out_tag == GLOW_VARIABLE && out_arg == 0 ? 0 : 1;
+}
