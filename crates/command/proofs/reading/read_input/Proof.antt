@@ -8,10 +8,6 @@ use lib.ListN.{length}
 use Rattle.io.proofs.Counting.{counts}
 use Rattle.command.proofs.reading.read_input.Statement.{statement}
 use Rattle.command.proofs.reading.read_input.Tie as tie
-use Rattle.command.proofs.reading.read_input.Reads as reads
-use Rattle.command.proofs.reading.read_input.Lts as lts
-use Rattle.io.proofs.count.Reads as count-reads
-use Rattle.libc.proofs.read.Reads as read-reads
 
 abbrev Inv-loop : tie.InvT-loop
 Inv-loop fd buf₀ done₀ buf done = (done ≤ length buf) × (length buf ≡ length buf₀)
