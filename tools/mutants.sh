@@ -74,22 +74,34 @@ ends=("sums.push(0);" "if sums.len() > names { return None; } sums.push(0);"
                     work.push")
 
 # the traps of paper 01, in its order
-try "trap 1: an inert entry copied at subst, the answer right and the bounds lost" "                                subst += 1;
+try "trap 1: an inert entry copied at subst, the answer right and the bounds lost" \
+    "/// Status and report as the C function gives them." "/// An item as nodes, its names left as they are; none where an abstraction is in it.
+fn item_nodes(s: &Lent, code: usize, stack: u16) -> Option<Vec<(u8, u16)>> {
+    if s.tags[code] != 0 { return None; }
+    let mut nodes = vec![(0, s.args[code])];
+    let mut q = stack as usize;
+    while q != 0 {
+        let item = item_nodes(s, s.codes[q - 1] as usize, s.owns[q - 1])?;
+        nodes.insert(0, (2, nodes.len() as u16));
+        nodes.extend(item);
+        q = s.nexts[q - 1] as usize;
+    }
+    Some(nodes)
+}
+
+/// Status and report as the C function gives them." \
+    "                                subst += 1;
                                 continue;
                             }
 " "                                subst += 1;
                                 continue;
                             }
-                            // the entry is y with one item d, both names alone: the code is y d once more
-                            let own = s.owns[e as usize - 1] as usize;
-                            if own != 0 && s.nexts[own - 1] == 0 && s.owns[own - 1] == 0 && s.tags[s.codes[own - 1] as usize] == 0 {
+                            if let Some(copy) = item_nodes(s, from, s.owns[e as usize - 1]) {
                                 if steps == budget as u64 { break 'run 100; }
-                                if nodes + 3 > cap { break 'run 9; }
-                                let (y, d) = (s.args[from], s.args[s.codes[own - 1] as usize]);
-                                s.tags[nodes..nodes + 3].copy_from_slice(&[2, 0, 0]);
-                                s.args[nodes..nodes + 3].copy_from_slice(&[1, y, d]);
+                                if nodes + copy.len() > cap { break 'run 9; }
+                                for (k, &(tag, x)) in copy.iter().enumerate() { s.tags[nodes + k] = tag; s.args[nodes + k] = x; }
                                 code = nodes;
-                                nodes += 3;
+                                nodes += copy.len();
                                 subst += 1;
                                 continue;
                             }
