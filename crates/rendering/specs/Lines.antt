@@ -1,11 +1,12 @@
 -- The lines that tell an answer, as bytes of ASCII: 01, Runs worked through, what glow prints.
--- Letters: r is a report, ns the nodes of the normal form.
+-- Letters: r is a report, ns the nodes of the normal form, s are a file's bytes, st the stores' lengths.
 use Prim.Native.Nat.{ℕ, zero, suc, _+_}
 use Prim.Native.Char.{code}
 use Prim.Native.String.{String, [] as nothing, _∷_ as _then_}
 use mathlib.Core.List.{List, [], _∷_, _++_, map}
 use Rattle.termfile.specs.Nodes.{Node}
-use Rattle.machine.specs.Answer.{Outcome, normal, spent, refused, Report, Answer, number-alone, report}
+use Rattle.machine.specs.Run.{Stores}
+use Rattle.machine.specs.Answer.{Outcome, normal, spent, refused, Report, Answer, number-alone, report, answer, written}
 use Rattle.rendering.specs.Decimal.{decimal}
 
 -- the codes of a text's characters
@@ -78,3 +79,7 @@ termLine (refused k) ns = []
 abbrev pub lines : Answer → List Node → List ℕ
 lines (number-alone k) ns = refusedLine k
 lines (report r) ns = outcomeLine (r .outcome) ++ countLines r ++ termLine (r .outcome) ns
+
+-- the text of a call
+unfoldable pub textOf : List ℕ → ℕ → Stores → List ℕ
+textOf s budget st = lines (answer s budget st) (written s budget st)

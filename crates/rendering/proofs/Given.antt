@@ -1,0 +1,97 @@
+-- Every answer that `evaluate` gives can be told, and the nodes at the front of the output arrays are those that the call writes. What is
+-- used of the demands stands here: the result fits the output, what is written has as many nodes as the outcome says, and the steps are
+-- within the budget.
+-- Letters: s are the file's bytes, st the stores' lengths, a is the answer, ns are the nodes written, ts and ms the output arrays.
+-- Assumes nothing.
+use Prim.Native.Nat.{ℕ, _^_, _≤_, _<_, zero-le}
+use mathlib.Core.Path.{_≡_, refl, sym, ap, _∙_, subst₂}
+use mathlib.Core.List.{List, [], _∷_, map}
+use native.Mathlib.Omega.{arith}
+use lib.ListN.{length, take, drop, length-append, length-map}
+use lib.Seq.{take-append-seam}
+use Rattle.termfile.specs.Nodes.{Node}
+use Rattle.termfile.specs.File.{pairs}
+use Rattle.machine.specs.Run.{Stores, Run}
+use Rattle.machine.specs.Conditions.{Condition, result-fits, result-refused, run-spent, run-refused}
+use Rattle.machine.specs.Answer.{Outcome, normal, spent, refused, Report, Answer, written, outputLimit, overlay}
+use Rattle.machine.specs.Demands.{Demand2, Demand3, Meets, file-refused, file-run}
+use Rattle.evaluator.specs.Calling.{told}
+use Rattle.evaluator.specs.Promise.{Memory, storesIn, Called}
+use Rattle.evaluator.specs.declared.Answer as enum
+use Rattle.rendering.specs.Lines.{shiftSum, lines, textOf}
+use Rattle.rendering.specs.Promise.{nodesWritten, nodesIn, Possible, Tellable}
+
+condition-fits : {s : List ℕ} {budget : ℕ} {st : Stores} {r : Run} {o : Outcome} → Condition s budget st r o → nodesWritten o ≤ st .output
+condition-fits (result-fits e n h) = h
+condition-fits (result-refused k e h) = zero-le
+condition-fits (run-spent e) = zero-le
+condition-fits (run-refused k e) = zero-le
+
+written-count : {s : List ℕ} {budget : ℕ} {st : Stores} {r : Run} {q : Report} {ns : List Node} → Demand2 s budget st r q ns
+    → nodesWritten (q .outcome) ≡ length ns
+written-count {q = q} {ns = ns} d = by (q .outcome) refl
+  where
+    by : (o : Outcome) → q .outcome ≡ o → nodesWritten o ≡ length ns
+    by (normal n) e = sym (d .normal-form n e .size)
+    by spent e = sym (ap length (d .unwritten (λ n e′. let z : _≡_ {A = ℕ} 0 1 = cc in omega arith)))
+    by (refused k) e = sym (ap length (d .unwritten (λ n e′. let z : _≡_ {A = ℕ} 0 1 = cc in omega arith)))
+
+steps-fit : {s : List ℕ} {budget : ℕ} {st : Stores} {r : Run} {q : Report} → budget < 2 ^ 64 → Demand3 s budget st r q → shiftSum q < 2 ^ 64
+steps-fit few d = omega (arith, d .reported .all, d .is-run .in-budget)
+
+-- nodes by their tags and arguments
+pairs-split : (ns : List Node) → pairs (map (λ n. n .tag) ns) (map (λ n. n .argument) ns) ≡ ns
+pairs-split [] = refl
+pairs-split (n ∷ ns) = ap (λ rest. n ∷ rest) (pairs-split ns)
+
+-- the front of an array over which a list is laid
+overlay-front : (new old : List ℕ) → take (length new) (overlay new old) ≡ new
+overlay-front new old = take-append-seam new (drop (length new) old)
+
+overlay-longer : (new old : List ℕ) → length new ≤ length (overlay new old)
+overlay-longer new old = omega (arith, length-append new (drop (length new) old))
+
+-- of an answer that meets the demands, and of the output arrays that the nodes are written to
+pub record Given (a : Answer) (ns : List Node) (ts ms : List ℕ) : Type 0 where
+  pub tellable : Tellable a ts ms
+  pub nodes-are : nodesIn a ts ms ≡ ns
+
+meets-given : {s : List ℕ} {budget : ℕ} {st : Stores} {a : Answer} {ns : List Node} → budget < 2 ^ 64 → st .output ≤ outputLimit → Meets s budget st a ns
+    → (ts ms : List ℕ) → Given a ns (overlay (map (λ n. n .tag) ns) ts) (overlay (map (λ n. n .argument) ns) ms)
+meets-given few limit (file-refused k e) ts ms = record { tellable = tt; nodes-are = refl }
+meets-given few limit (file-run r q ns e two three) ts ms =
+    let tags = map (λ n. n .tag) ns in
+    let arguments = map (λ n. n .argument) ns in
+    let count = written-count two in
+    let tags-count : length tags ≡ length ns = length-map ns (λ n. n .tag) in
+    let arguments-count : length arguments ≡ length ns = length-map ns (λ n. n .argument) in
+    record {
+      tellable =
+          record {
+            within-limit = omega (arith, condition-fits (two .exactly (q .outcome) .0 refl));
+            within-tags = omega (arith, count, tags-count, overlay-longer tags ts);
+            within-arguments = omega (arith, count, arguments-count, overlay-longer arguments ms);
+            sum-fits = steps-fit few three;
+          };
+      nodes-are =
+          ap (λ n. pairs (take n (overlay tags ts)) (take n (overlay arguments ms))) count
+          ∙ ap (λ n. pairs (take n (overlay tags ts)) (take (length ns) (overlay arguments ms))) (sym tags-count)
+          ∙ ap (λ n. pairs (take (length tags) (overlay tags ts)) (take n (overlay arguments ms))) (sym arguments-count)
+          ∙ ap (λ l. pairs l (take (length arguments) (overlay arguments ms))) (overlay-front tags ts)
+          ∙ ap (pairs tags) (overlay-front arguments ms)
+          ∙ pairs-split ns;
+    }
+
+-- of a call
+pub called-given : {s : List ℕ} {budget : ℕ} {q : enum.Answer} {m m′ : Memory} → budget < 2 ^ 64 → Called s budget q m m′
+    → Given (told q) (written s budget (storesIn m)) (m′ .output-tags) (m′ .output-arguments)
+called-given {s} {budget} {q} {m} {m′} few c =
+    subst₂ (λ ts ms. Given (told q) (written s budget (storesIn m)) ts ms) (sym (c .output-tags-are)) (sym (c .output-arguments-are))
+    (meets-given few (omega arith) (c .meets) (m .output-tags) (m .output-arguments))
+
+-- the text that is rendered after a call is the text of the call
+pub called-text : {s : List ℕ} {budget : ℕ} {q : enum.Answer} {m m′ : Memory} → budget < 2 ^ 64 → Called s budget q m m′
+    → lines (told q) (nodesIn (told q) (m′ .output-tags) (m′ .output-arguments)) ≡ textOf s budget (storesIn m)
+unfolding textOf
+called-text {s} {budget} {q} {m} {m′} few c =
+    ap (lines (told q)) (called-given few c .nodes-are) ∙ ap (λ a. lines a (written s budget (storesIn m))) (c .answer-is)
