@@ -2,6 +2,11 @@
 
 pub const MOST: usize = 16_384;
 
+/// 01, Numbered answers: its examples of refusals 1 to 7, in their order.
+pub const REFUSED_FILES: [&[u8]; 7] = [
+    &[1, 0, 1], &[0, 0, 0, 0], &[1, 0, 1, 0, 0], &[1, 0, 1, 0, 3, 0, 0], &[1, 0, 1, 0, 2, 1, 0], &[0, 0, 2, 0, 1, 0, 1, 0, 1, 0], &[0, 0, 1, 0, 0, 0, 0],
+];
+
 /// An accepted file.
 #[derive(Clone, Debug, PartialEq, Eq)]
 pub struct Parsed {

@@ -10,6 +10,14 @@ use std::sync::atomic::{AtomicUsize, Ordering};
 
 pub fn root() -> PathBuf { Path::new(env!("CARGO_MANIFEST_DIR")).parent().unwrap().to_path_buf() }
 
+/// The term files of examples/; beside each is what glow prints for it.
+pub fn examples() -> Vec<PathBuf> {
+    let mut all: Vec<PathBuf> = std::fs::read_dir(root().join("examples")).unwrap().map(|e| e.unwrap().path()).filter(|p| p.extension().is_some_and(|e| e == "term")).collect();
+    all.sort();
+    assert!(all.len() >= 14);
+    all
+}
+
 /// The program that GLOW_BIN names, or target/bin/glow.
 pub fn program() -> PathBuf {
     let path = std::env::var_os("GLOW_BIN").map_or_else(|| root().join("target/bin/glow"), PathBuf::from);

@@ -1,4 +1,5 @@
 //! Every worked case of 01, the table's examples, and the traps' cases.
+use glow_tests::file::REFUSED_FILES;
 use glow_tests::case::{print_notes, Case};
 use glow_tests::file::check;
 use glow_tests::flat::from_text;
@@ -52,11 +53,7 @@ fn a_to_j() {
 
 #[test]
 fn table_examples() {
-    let files: [(&[u8], u8); 7] = [
-        (&[1, 0, 1], 1), (&[0, 0, 0, 0], 2), (&[1, 0, 1, 0, 0], 3), (&[1, 0, 1, 0, 3, 0, 0], 4),
-        (&[1, 0, 1, 0, 2, 1, 0], 5), (&[0, 0, 2, 0, 1, 0, 1, 0, 1, 0], 6), (&[0, 0, 1, 0, 0, 0, 0], 7),
-    ];
-    for (file, n) in files {
+    for (file, n) in REFUSED_FILES.into_iter().zip(1..) {
         assert_eq!(Case::glow(file).check(), Answer::FileRefused(n));
         for report_len in 0..15 { Case { report_len, ..Case::new(file, 5, Lengths::glow()) }.check(); }
         Case::new(file, 0, Lengths::of(0, 0, 0, 0, 0)).check();

@@ -1,17 +1,9 @@
 //! Around the library: the wrapper's own types, the C example, tools/terms and examples/.
 use glow_tests::case::Case;
 use glow_tests::machine::*;
-use std::path::{Path, PathBuf};
+use glow_tests::process::{examples, root};
+use std::path::Path;
 use std::process::Command;
-
-fn root() -> PathBuf { Path::new(env!("CARGO_MANIFEST_DIR")).parent().unwrap().to_path_buf() }
-
-fn examples() -> Vec<PathBuf> {
-    let mut all: Vec<PathBuf> = std::fs::read_dir(root().join("examples")).unwrap().map(|e| e.unwrap().path()).filter(|p| p.extension().is_some_and(|e| e == "term")).collect();
-    all.sort();
-    assert!(all.len() >= 12);
-    all
-}
 
 #[test]
 fn examples_print_as_written() {

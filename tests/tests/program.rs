@@ -4,7 +4,8 @@
 use glow_tests::families::*;
 use glow_tests::flat::*;
 use glow_tests::machine::{evaluate, printed, Lengths, GLOW_BUDGET};
-use glow_tests::process::{file_of, program, root, run, run_unseen, Ended};
+use glow_tests::file::REFUSED_FILES;
+use glow_tests::process::{examples, file_of, program, run, run_unseen, Ended};
 use std::fs::File;
 use std::io::{Read, Seek, Write};
 use std::os::fd::OwnedFd;
@@ -59,23 +60,17 @@ fn largest() -> Vec<Vec<u8>> {
 }
 
 #[test]
-fn examples() {
-    let mut seen = 0;
-    for entry in std::fs::read_dir(root().join("examples")).unwrap() {
-        let path = entry.unwrap().path();
-        if path.extension().is_some_and(|e| e == "term") {
-            assert_eq!(answers(&std::fs::read(&path).unwrap()), std::fs::read_to_string(path.with_extension("out")).unwrap(), "{}", path.display());
-            seen += 1;
-        }
+fn every_example() {
+    for path in examples() {
+        assert_eq!(answers(&std::fs::read(&path).unwrap()), std::fs::read_to_string(path.with_extension("out")).unwrap(), "{}", path.display());
     }
-    assert!(seen >= 14);
 }
 
-/// Refusals 1 to 7 by paper 01's examples, and what a run can end with. 8, 10, 11, 13, spent and the loading refusals cannot come: a file has
-/// at most 8,191 applications and a copy at least 2 nodes, so that no run makes 65,536 steps or takes more cells or names than there are.
+/// Refusals 1 to 7 by paper 01's examples, and what a run can end with. 8, 10, 11, 13, spent and the loading refusals cannot come: 16,384
+/// nodes have at most 8,191 applications and a copy takes at least 2, so that no run makes 65,536 steps or takes more cells or names than there are.
 #[test]
 fn each_answer() {
-    let numbered: [&[u8]; 7] = [&[1, 0, 1], &[0, 0, 0, 0], &[1, 0, 1, 0, 0], &[1, 0, 1, 0, 3, 0, 0], &[1, 0, 1, 0, 2, 1, 0], &[0, 0, 2, 0, 1, 0, 1, 0, 1, 0], &[0, 0, 1, 0, 0, 0, 0]];
+    let numbered = REFUSED_FILES;
     for (k, file) in numbered.iter().enumerate() { assert_eq!(answers(file), format!("refused {}\n", k + 1)); }
     assert_eq!(answers(&[]), "refused 1\n");
     assert!(answers(&canonical(0, &omega()).file()).starts_with("refused 9\n"));
@@ -88,7 +83,7 @@ fn largest_results() {
     for file in largest() {
         let text = answers(&file);
         assert!(text.starts_with("normal\n"));
-        // once more through a pipe, which takes less than the whole at a time
+        // once more through a pipe, which holds less than the whole
         let done = glow(file_of(&file)).stdout(Stdio::piped()).stderr(Stdio::piped()).spawn().unwrap().wait_with_output().unwrap();
         same(&done.stdout, &text);
         assert!(done.status.success() && done.stderr.is_empty());

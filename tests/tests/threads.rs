@@ -1,6 +1,10 @@
 //! The wrapper's `evaluate` on stacks of all sizes: the right answer, and no crash.
 #![cfg(feature = "library")]
 use glow_tests::case::deep_calls;
+use glow_tests::families::abstraction_chain;
+use glow_tests::flat::canonical;
+use glow_tests::machine::GLOW_BUDGET;
+use glow_tests::painted::on_stack;
 use std::ffi::c_void;
 use std::os::raw::c_int;
 use std::process::Command;
@@ -12,14 +16,27 @@ fn threads_of_all_sizes() {
     }
 }
 
+/// Where the thread has enough stack, the call stays on it; where not, next to nothing is used of it.
+#[test]
+fn another_thread_only_where_needed() {
+    let file = canonical(0, &abstraction_chain(4095)).file();
+    let mut stores = glow::Stores::glow();
+    let needed = stores.stack_needed();
+    assert!(on_stack(8 << 20, || { stores.evaluate(&file, GLOW_BUDGET); }) > needed / 2);
+    assert!(on_stack(1 << 20, || { stores.evaluate(&file, GLOW_BUDGET); }) < needed / 16);
+}
+
 /// The first thread of a program, with its stack limited by the system.
 #[test]
 fn the_first_thread() {
+    let mut tried = 0;
     for limit in ["128", "256", "1024", "2048", "8192", "unlimited"] {
         let ran = Command::new("sh").args(["-c", "ulimit -S -s \"$1\" || exit 9; exec \"$0\"", env!("CARGO_BIN_EXE_first_thread"), limit]).output().unwrap();
         if ran.status.code() == Some(9) { println!("the system allows no limit of {limit}"); continue; }
         assert_eq!(String::from_utf8_lossy(&ran.stdout), "right\n", "{limit}: {:?} {}", ran.status, String::from_utf8_lossy(&ran.stderr));
+        tried += 1;
     }
+    assert!(tried >= 4);
 }
 
 /// A stack that is not the thread's own, as coroutines have: 64 KiB, by makecontext.
@@ -33,7 +50,9 @@ fn a_stack_of_another_making() {
         fn makecontext(context: *mut Context, work: extern "C" fn(), words: c_int, ...);
         fn swapcontext(from: *mut Context, to: *const Context) -> c_int;
     }
-    extern "C" fn work() { deep_calls(); }
+    extern "C" fn work() {
+        if std::panic::catch_unwind(deep_calls).is_err() { std::process::abort(); }
+    }
     let mut stack = vec![0u128; (64 << 10) / 16];
     let empty = || Context { flags: 0, link: std::ptr::null_mut(), start: std::ptr::null_mut(), stack_flags: 0, size: 0, more: [0; 256] };
     let (mut here, mut there) = (empty(), empty());
