@@ -6,7 +6,7 @@ use mathlib.Core.Bool.{Bool, true, false}
 use mathlib.Core.List.{List}
 use native.Mathlib.Omega.{arith}
 use lib.Dec.{leb}
-use lib.ListN.{length}
+use lib.ListN.{length, replicate, length-replicate}
 use borrow.Author.Tests.{leb-true, leb-false}
 use Rattle.machine.specs.Answer.{overlay}
 use Rattle.machine.specs.Program.{million, glow}
@@ -14,7 +14,7 @@ use Rattle.evaluator.specs.Calling.{told}
 use Rattle.evaluator.specs.Promise.{Memory, storesIn, Called}
 use Rattle.evaluator.specs.declared.Answer.{Answer}
 use Rattle.rendering.specs.Lines.{lines, textOf}
-use Rattle.rendering.specs.Promise.{nodesIn, Renders}
+use Rattle.rendering.specs.Promise.{nodesIn, longestText, Renders}
 use Rattle.rendering.specs.declared.Rendered.{Rendered}
 use Rattle.rendering.specs.declared.Rendered.the-variants.{Written, TooShort}
 use Rattle.rendering.proofs.Given.{called-given, called-text}
@@ -56,3 +56,15 @@ tells {s} {a} {m} {m′} {q} {l} {l′} g c r =
       short-kept = subst (λ t. length l < length t → l′ ≡ l) same (r .short-kept given);
       enough = λ h. fits (length (glowText s)) (length l) (λ less. r .enough h (short less)) (leb (length (glowText s)) (length l)) refl;
     }
+
+-- what is written into an array as long as the longest text ends within it
+pub written-fits : {s : List ℕ} {q : Rendered} {l l′ : List ℕ} {n : ℕ} → Tells s q l l′ → longestText ≤ length l → length l′ ≡ length l → q ≡ Written n
+    → n ≤ length l′
+written-fits {s} {q} {l} {l′} {n} t long kept e =
+    let is : q ≡ Written (length (glowText s)) = t .written (t .enough long) in
+    let same : n ≡ length (glowText s) = cc in
+    omega (arith, same, t .enough long, kept)
+
+-- arrays of zeros
+pub zeros : (n : ℕ) → length (replicate {A = ℕ} n 0) ≡ n
+zeros n = length-replicate {A = ℕ} n 0
