@@ -10,6 +10,9 @@ use reading::Input;
 use reading::read_input;
 use rendering::Rendered;
 use telling::tell;
+ghost use Prim.Native.Nat.{_≤_};
+ghost use lib.ListN.{length};
+ghost use Rattle.rendering.specs.Promise.{longestText};
 ghost use Rattle.command.specs.ExitStatus.{ExitStatus};
 
 // The exit statuses: the answer is written out; the input cannot be read or the output not be written.
@@ -26,8 +29,10 @@ fn say_unwritten() {
     os::fail(b"glow: cannot write the output");
 }
 
-// Reads the file into `buf`, has its lines put into `text`, and writes them at once.
+// Reads the file into `buf`, has its lines put into `text`, and writes them at once. As `text` has room for every text, `tell`
+// always writes one.
 fn respond(buf: &mut [u8], text: &mut [u8]) -> i32
+    requires { ⌜ longestText ≤ length (now text) ⌝ }
     ensures { λ r. ⌜ ExitStatus r ⌝ }
 {
     let input = read_input(STDIN_FILENO, buf);
@@ -39,10 +44,8 @@ fn respond(buf: &mut [u8], text: &mut [u8]) -> i32
     let Rendered::Written(n) = told else {
         return FAILED;
     };
-    if n <= text.len() {
-        if io::write_all(STDOUT_FILENO, &text[..n]) {
-            return DONE;
-        }
+    if io::write_all(STDOUT_FILENO, &text[..n]) {
+        return DONE;
     }
     say_unwritten();
     FAILED

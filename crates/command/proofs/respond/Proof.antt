@@ -1,11 +1,19 @@
 -- `command::respond` meets its contract. What was read is a count of the buffer's own bytes, so that the file is a part of the buffer; each status
--- returned is 0 or 1.
+-- returned is 0 or 1. The text ends within its array, which has room for every text.
 -- Assumes nothing.
 use borrow.Author.Needs.{needs}
-use Rattle.io.proofs.Counting.{front}
+use Prim.Native.Nat.{_≤_}
+use mathlib.Core.Path.{sym}
+use lib.ListN.{length}
+use lib.Seq.{length-take-le}
 use Rattle.command.proofs.Counted.{counted}
+use Rattle.command.proofs.Tellings.{written-fits}
 use Rattle.command.proofs.respond.Statement.{statement}
 use Rattle.command.proofs.respond.Tie as tie
+
+-- the text that `tell` writes ends within its array
+fits : (d : tie.After-known-told2) → d .before .told .given .0 .0 ≤ length (d .before .before .before .before .before .tell .last .1 .0)
+fits d = written-fits (d .before .before .before .before .before .tell .ensures) (d .before .before .before .before .before .before .before .before .before .before .before .before .before .before .before .before .before .pre) (d .before .before .before .before .before .tell .kept .1 .0) (d .before .told .given .1)
 
 read-input-requires : tie.Need-read-input-requires
 read-input-requires c κs = search needs
@@ -47,10 +55,10 @@ returns-2 : tie.Need-returns-2
 returns-2 c = search needs
 
 slice-reshare-prefix-write-all : tie.Need-slice-reshare-prefix-write-all
-slice-reshare-prefix-write-all c = search needs
+slice-reshare-prefix-write-all c = fits c
 
 slice-aggregate-write-all : tie.Need-slice-aggregate-write-all
-slice-aggregate-write-all c = front _ _ (c .before .if1 .taken)
+slice-aggregate-write-all c = sym (length-take-le _ (c .before .before .before .before .before .before .tell .last .1 .0) (fits (c .before)))
 
 write-all-requires : tie.Need-write-all-requires
 write-all-requires c κs = search needs
