@@ -19,7 +19,7 @@ use Rattle.evaluator.specs.Calling.{told}
 use Rattle.evaluator.specs.Promise.{Memory, storesIn, Called}
 use Rattle.evaluator.specs.declared.Answer as enum
 use Rattle.rendering.specs.Lines.{shiftSum, lines, textOf}
-use Rattle.rendering.specs.Promise.{nodesWritten, nodesIn, Possible, Tellable}
+use Rattle.rendering.specs.Promise.{nodesWritten, nodesIn, Tellable}
 
 condition-fits : {s : List ℕ} {budget : ℕ} {st : Stores} {r : Run} {o : Outcome} → Condition s budget st r o → nodesWritten o ≤ st .output
 condition-fits (result-fits e n h) = h

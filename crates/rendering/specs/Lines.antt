@@ -66,6 +66,7 @@ letter zero = code "v"
 letter (suc zero) = code "l"
 letter (suc (suc t)) = code "a"
 
+-- a node, as `v0`
 abbrev pub nodeWord : Node → List ℕ
 nodeWord n = letter (n .tag) ∷ decimal (n .argument)
 

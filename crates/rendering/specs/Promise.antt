@@ -22,18 +22,20 @@ nodesWritten (refused k) = 0
 abbrev pub nodesAt : ℕ → List ℕ → List ℕ → List Node
 nodesAt n ts ms = pairs (take n ts) (take n ms)
 
+-- the nodes of an answer
 abbrev pub nodesIn : Answer → List ℕ → List ℕ → List Node
 nodesIn (number-alone k) ts ms = []
 nodesIn (report r) ts ms = nodesAt (nodesWritten (r .outcome)) ts ms
 
--- a report that `evaluate` can give with these output arrays: the normal form fits into the output, and the sum of the shifting steps is
--- a number of 64 bits
+-- what every report of `evaluate` has, with the output arrays of its call (proofs/Given): the normal form fits into the output, and the sum
+-- of the shifting steps is a number of 64 bits
 pub record Possible (r : Report) (ts ms : List ℕ) : Type 0 where
   pub within-limit : nodesWritten (r .outcome) ≤ outputLimit
   pub within-tags : nodesWritten (r .outcome) ≤ length ts
   pub within-arguments : nodesWritten (r .outcome) ≤ length ms
   pub sum-fits : shiftSum r < 2 ^ 64
 
+-- an answer that is told
 abbrev pub Tellable : Answer → List ℕ → List ℕ → Type 0
 Tellable (number-alone k) ts ms = Unit {0}
 Tellable (report r) ts ms = Possible r ts ms
@@ -49,7 +51,7 @@ pub record Renders (a : Answer) (ts ms : List ℕ) (q : Rendered) (l l′ : List
   -- one that is too short is said to be, and is as it was
   pub short : Tellable a ts ms → length l < length (lines a (nodesIn a ts ms)) → q ≡ TooShort
   pub short-kept : Tellable a ts ms → length l < length (lines a (nodesIn a ts ms)) → l′ ≡ l
-  -- so is one that is lent with an answer which no call of `evaluate` gives
+  -- so is one that is lent with an answer that is not so, which no call of `evaluate` gives
   pub no-answer : (Tellable a ts ms → ⊥) → q ≡ NoAnswer
   pub no-answer-kept : (Tellable a ts ms → ⊥) → l′ ≡ l
   -- an array as long as the longest text is never too short

@@ -1,8 +1,8 @@
 // The text of an answer: the lines that tell how a call of `evaluate` ended.
 //
 // `render` writes them at the front of an array that is lent. It counts their bytes first: where the array
-// is too short, and where no call of `evaluate` gives the answer with these output arrays, it says so and
-// writes nothing.
+// is too short it says so and writes nothing; and so it does where the answer's nodes are not in these output
+// arrays or its sum of shifting steps needs more than 64 bits, as no call of `evaluate` gives such an answer.
 mod digits;
 mod nodes;
 mod report;

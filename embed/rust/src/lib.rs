@@ -192,7 +192,7 @@ impl Stores {
     /// # Warning
     ///
     /// Where less than [`Stores::stack_needed`] is left, a term that is nested deeply enough **ends the process**: the
-    /// stack overflows, which no caller can catch. A thread of Rust's standard library has 2 MiB.
+    /// stack overflows, which no caller can catch. A thread of Rust's standard library has 2 MiB unless told otherwise.
     pub fn evaluate_on_this_stack(&mut self, file: &[u8], budget: u32) -> Answer {
         let mut raw = [0u64; REPORT_LEN];
         let status = evaluate_in_on_this_stack(

@@ -1,6 +1,6 @@
 -- `digits::width` meets its contract. The loop's invariant: the number has the digits of `rest` and `count` more. The measure is `rest`.
 -- Assumes nothing.
-use Prim.Native.Nat.{_+_, _/_, _≤_}
+use Prim.Native.Nat.{_+_, _≤_}
 use mathlib.Core.Path.{_≡_}
 use native.Mathlib.Omega.{arith}
 use lib.ListN.{length}

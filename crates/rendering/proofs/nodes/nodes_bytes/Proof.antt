@@ -1,11 +1,10 @@
 -- `nodes::nodes_bytes` meets its contract. The loop's invariant: the nodes before i are counted, at most 7 bytes for each. The measure is the
 -- number of the others. Assumes nothing.
 use Prim.Native.Nat.{_+_, _-_, _*_, _≤_}
-use mathlib.Core.Path.{_≡_, refl, sym, ap, _∙_}
+use mathlib.Core.Path.{_≡_, ap}
 use native.Mathlib.Omega.{arith}
 use lib.ListN.{length, getD, drop, drop-of-length-le}
 use borrow.Author.Needs.{needs}
-use Rattle.rendering.specs.Decimal.{decimal}
 use Rattle.rendering.specs.Putting.{nodesBytes}
 use Rattle.rendering.proofs.Decimal.{decimal-few}
 use Rattle.rendering.proofs.TermLine.{bytes-next}

@@ -1,7 +1,7 @@
 -- `report::put_report` meets its contract: the first line, those of the counts and that of the term, laid over the array's front.
 -- Assumes nothing.
 use Prim.Native.Nat.{ℕ}
-use mathlib.Core.List.{List, _++_}
+use mathlib.Core.List.{List}
 use native.Mathlib.Omega.{arith}
 use Rattle.termfile.specs.File.{pairs}
 use Rattle.machine.specs.Answer.{report}

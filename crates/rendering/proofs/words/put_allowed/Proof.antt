@@ -2,7 +2,6 @@
 -- Assumes nothing.
 use mathlib.Core.List.{[], _∷_, _++_}
 use borrow.Author.Needs.{needs}
-use Rattle.rendering.specs.Decimal.{decimal}
 use Rattle.rendering.specs.Lines.{ascii}
 use Rattle.rendering.specs.Putting.{Room}
 use Rattle.rendering.proofs.Putting.{put-then, room-first, room-next, room-as, put-as}

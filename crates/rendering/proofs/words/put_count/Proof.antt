@@ -1,11 +1,9 @@
 -- `words::put_count` meets its contract: the word and the number, and then the newline.
 -- Assumes nothing.
-use mathlib.Core.List.{[], _∷_, _++_}
+use mathlib.Core.List.{[], _∷_}
 use borrow.Author.Needs.{needs}
-use Rattle.rendering.specs.Decimal.{decimal}
-use Rattle.rendering.specs.Lines.{ascii}
 use Rattle.rendering.proofs.Putting.{put-then, room-first, room-next, room-as, put-as}
-use Rattle.rendering.proofs.Texts.{named, count-pieces}
+use Rattle.rendering.proofs.Texts.{count-pieces}
 use Rattle.rendering.proofs.words.put_count.Statement.{statement}
 use Rattle.rendering.proofs.words.put_count.Tie as tie
 
