@@ -1,5 +1,5 @@
--- What the parts of rendering promise: putting a text into an array, and the sum of the shifting steps. Letters: ts is the text, l what the array holds before and l′ after, and of
--- nodes ts are the tags and ms the arguments.
+-- What the parts of rendering promise: putting a text into an array, and the sum of the shifting steps.
+-- Letters: ts is the text, l what the array holds before and l′ after; of nodes ts are the tags and ms the arguments.
 use Prim.Native.Nat.{ℕ, _+_, _^_, _≤_, _<_}
 use mathlib.Core.Path.{_≡_}
 use mathlib.Core.List.{List, [], _∷_, map}

@@ -2,7 +2,8 @@
 //
 // `render` writes them at the front of an array that is lent. It counts their bytes first: where the array
 // is too short it says so and writes nothing; and so it does where the answer's nodes are not in these output
-// arrays or its sum of shifting steps needs more than 64 bits, as no call of `evaluate` gives such an answer.
+// arrays or are more than 16,384, or its sum of shifting steps needs more than 64 bits, as no call of
+// `evaluate` gives such an answer.
 mod digits;
 mod nodes;
 mod report;

@@ -181,8 +181,8 @@ impl Stores {
     ///
     /// # Panics
     ///
-    /// Where such a thread cannot be started, as [`std::thread::spawn`] does. Whoever rules that out gives the thread
-    /// the stack that is needed, and may then call [`Stores::evaluate_on_this_stack`].
+    /// Where such a thread cannot be started, as [`std::thread::spawn`] does. Who must rule that out gives the thread
+    /// the stack that is needed, and calls [`Stores::evaluate_on_this_stack`].
     pub fn evaluate(&mut self, file: &[u8], budget: u32) -> Answer {
         stack::with_stack(self.stack_needed(), || self.evaluate_on_this_stack(file, budget))
     }
