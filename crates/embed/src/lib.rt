@@ -21,7 +21,7 @@ fn refusal_of(outcome: Outcome) -> u64
     ensures { λ q. ⌜ q ≡ refusalOf (toldOutcome outcome) ⌝ }
 {
     match outcome {
-        Outcome::Refused(why) => stepping::number(why),
+        Outcome::Refused(why) => evaluator::number(why),
         Outcome::Normal(_) => 0,
         Outcome::Spent => 0,
     }

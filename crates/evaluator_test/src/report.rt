@@ -124,7 +124,7 @@ fn write_outcome(outcome: Outcome) {
             io::write_all(STDOUT_FILENO, b": spent");
         }
         Outcome::Refused(why) => {
-            write_number(b": refused ", stepping::number(why));
+            write_number(b": refused ", evaluator::number(why));
         }
     }
 }

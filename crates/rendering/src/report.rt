@@ -29,7 +29,7 @@ fn outcome_bytes(outcome: Outcome) -> usize
     match outcome {
         Outcome::Normal(_) => 7,
         Outcome::Spent => 6,
-        Outcome::Refused(why) => 9 + width(stepping::number(why)),
+        Outcome::Refused(why) => 9 + width(evaluator::number(why)),
     }
 }
 
@@ -81,7 +81,7 @@ fn put_outcome(out: &mut [u8], at: usize, outcome: Outcome) -> usize
     match outcome {
         Outcome::Normal(_) => put_bytes(out, at, b"normal\n"),
         Outcome::Spent => put_bytes(out, at, b"spent\n"),
-        Outcome::Refused(why) => put_count(out, at, b"refused", stepping::number(why)),
+        Outcome::Refused(why) => put_count(out, at, b"refused", evaluator::number(why)),
     }
 }
 
