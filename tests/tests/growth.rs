@@ -32,7 +32,8 @@ fn agree(free: usize, term: &Flat) -> bool {
     let run = evaluate(&file, 3000, &Lengths::largest()).run().clone();
     let (end, machine) = old_way(&file, MEMORY);
     let (Outcome::Normal(normal), End::Normal) = (run.outcome, end) else { return false };
-    assert_eq!((canonical(free, &flat(machine.term())), machine.counts.beta), (normal, run.counts.beta));
+    let term = machine.term(normal.tags.len()).expect("no more nodes than the normal form has");
+    assert_eq!((canonical(free, &flat(term)), machine.counts.beta), (normal, run.counts.beta));
     true
 }
 
@@ -46,8 +47,10 @@ fn counts_at(n: u64) -> Counts {
 /// The bytes that it takes there: each copy of i_(k - 1) has 2^k - 1 nodes.
 fn bytes_at(n: u64) -> u64 { bytes(5 * n + 1 + (4 << n) - 4 - 2 * n, (2 << n) - 2, n + 1) }
 
+/// Example 2 of source document 000 shows the run at t_2, step by step.
 #[test]
 fn the_old_way_at_the_exploding_terms() {
+    assert_eq!(counts_at(2), Counts { beta: 2, subst: 4, enter: 6, leave_fun: 0, leave_inert: 6 });
     for n in 0..=10 {
         assert!(agree(1, &open_explosion(n)));
         let (_, machine) = old_way(&t(n), MEMORY);
