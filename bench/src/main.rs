@@ -10,7 +10,10 @@
 //!     cargo run --release -p glow-bench            (--no-default-features: the plain machine alone)
 //!     cargo run --release -p glow-bench -- --instructions
 //!     cargo run --release -p glow-bench -- --text  (the program; GLOW_BIN names another)
-//!     bench/run.sh                                 all three, kept in bench/last.txt
+//!     cargo run --release -p glow-bench -- --growth    (t_n of proposition 3 beside the old way)
+//!     bench/run.sh                                 all four, kept in bench/last.txt and bench/growth.txt
+#[cfg(feature = "library")]
+mod growth;
 mod instructions;
 mod text;
 
@@ -174,8 +177,10 @@ fn work() {
         None => { time_table(); if cfg!(feature = "library") { care_rows(); } }
         Some("--instructions") => instructions::table(),
         Some("--text") => text::table(),
+        #[cfg(feature = "library")]
+        Some("--growth") => growth::table(),
         Some("--calls") => instructions::make_calls(&words[1..]),
-        Some(other) => { eprintln!("glow-bench: {other} is not known; there are --instructions and --text"); std::process::exit(2) }
+        Some(other) => { eprintln!("glow-bench: {other} is not known; there are --instructions, --text and, with the library, --growth"); std::process::exit(2) }
     }
 }
 
