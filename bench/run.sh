@@ -1,7 +1,10 @@
 #!/usr/bin/env bash
-# Runs the benchmark, times, instructions and the program's text, and keeps what it prints in bench/last.txt. The library and the program must be built.
+# Runs the benchmark, times, instructions and the program's text, and keeps what it prints in bench/last.txt. Sets up and builds what it needs.
 set -euo pipefail
 cd "$(dirname "$0")/.."
+tools/setup kit cc rust valgrind
+. tools/path.sh
+tools/build
 new=$(mktemp)
 trap 'rm -f "$new"' EXIT
 {

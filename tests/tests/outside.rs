@@ -65,10 +65,10 @@ mod library {
 
     /// What a C program prints that is compiled with the header and the library.
     fn printed_by(source: &Path, name: &str) -> String {
-        let lib = std::env::var("GLOW_LIB_DIR").unwrap_or_else(|_| root().join("target/staticlib").display().to_string());
+        let lib = std::env::var("GLOW_LIB_DIR").unwrap_or_else(|_| root().join("target/lib").display().to_string());
         let out = std::env::temp_dir().join(format!("glow-{name}-{}", std::process::id()));
         let cc = Command::new("cc").args(["-std=c99", "-Wall", "-Wextra", "-Werror", "-pedantic", "-I"]).arg(root().join("embed")).arg(source)
-            .arg(Path::new(&lib).join("libembed.a")).args(["-o"]).arg(&out).args(["-lpthread", "-ldl", "-lm"]).output().unwrap();
+            .arg(Path::new(&lib).join("libglow.a")).args(["-o"]).arg(&out).args(["-lpthread", "-ldl", "-lm"]).output().unwrap();
         assert!(cc.status.success(), "cc: {}", String::from_utf8_lossy(&cc.stderr));
         let ran = Command::new(&out).output().unwrap();
         let _ = std::fs::remove_file(&out);
