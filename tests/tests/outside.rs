@@ -1,4 +1,4 @@
-//! Around the library: the wrapper's own types, the C example, tools/terms and examples/.
+//! Around the library: the wrapper's own types, the C example, tools/terms, tools/glow and examples/.
 use glow_tests::case::Case;
 use glow_tests::machine::*;
 use glow_tests::process::{examples, root};
@@ -27,6 +27,16 @@ fn terms_tool() {
     let wrong = Command::new("python3").arg(&terms).args(["make", "(x"]).output().unwrap();
     assert_eq!(wrong.status.code(), Some(1));
     assert!(String::from_utf8_lossy(&wrong.stderr).starts_with("terms: "));
+}
+
+/// What is no file is told before anything is built, and nothing is printed. What it prints for a file, the gate compares.
+#[test]
+fn glow_tool() {
+    for wrong in [&["nowhere.term"][..], &["examples"], &["--help"], &[""], &["one", "two"]] {
+        let done = Command::new(root().join("tools/glow")).args(wrong).current_dir(root()).output().unwrap();
+        assert_eq!((done.status.code(), done.stdout), (Some(2), vec![]), "{wrong:?}");
+        assert!(String::from_utf8_lossy(&done.stderr).starts_with("tools/glow: "), "{wrong:?}");
+    }
 }
 
 #[cfg(feature = "library")]
