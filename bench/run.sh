@@ -1,8 +1,11 @@
 #!/usr/bin/env bash
 # Runs the benchmark: times, instructions and the program's text, kept in bench/last.txt; then what t_n takes beside the old way, kept in
-# bench/growth.txt and drawn in docs/growth.svg. The library and the program must be built. The old way needs 2 GiB of memory.
+# bench/growth.txt and drawn in docs/growth.svg. Sets up and builds what it needs. The old way needs 2 GiB of memory.
 set -euo pipefail
 cd "$(dirname "$0")/.."
+tools/setup kit cc rust valgrind
+. tools/path.sh
+tools/build
 new=$(mktemp)
 growth=$(mktemp)
 trap 'rm -f "$new" "$growth"' EXIT

@@ -1,4 +1,4 @@
-/* Evaluates (\x. x x) y.   cc example.c libembed.a -o example && ./example */
+/* Evaluates (\x. x x) y.   cc example.c libglow.a -o example && ./example */
 #include "glow.h"
 #include <stdio.h>
 

@@ -1,4 +1,4 @@
-/* glow: open lambda terms evaluated by the Easy GLAMOUR machine. Link with libembed.a. */
+/* glow: open lambda terms evaluated by the Easy GLAMOUR machine. Link with libglow.a. */
 #ifndef GLOW_H
 #define GLOW_H
 

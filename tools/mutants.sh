@@ -6,6 +6,8 @@
 # time limit. Exit status 0: the machine with nothing wrong passes, and each fault was put in, compiled and caught.
 set -euo pipefail
 cd "$(dirname "$0")/.."
+tools/setup cc rust python
+. tools/path.sh
 here=$PWD
 scratch=${1:-$here/target/mutants}
 mkdir -p "$scratch/lib"
@@ -29,7 +31,7 @@ for old, new in zip(sys.argv[1::2], sys.argv[2::2]):
 open(path, "w").write(text)
 P
     cargo build -q --release --offline -p mock 2> "$scratch/log" || { echo "does not compile"; return 1; }
-    cp "$scratch/target/release/libembed.a" "$scratch/lib/"
+    cp "$scratch/target/release/libmock.a" "$scratch/lib/libglow.a"
 }
 
 # Runs the tests that look at answers, with 6 GiB of memory at most; their status.

@@ -1,4 +1,4 @@
-//! Around the library: the wrapper's own types, the C example, tools/terms and examples/.
+//! Around the library: the wrapper's own types, the C example, tools/terms, tools/glow and examples/.
 use glow_tests::case::Case;
 use glow_tests::machine::*;
 use glow_tests::process::{examples, root};
@@ -27,6 +27,16 @@ fn terms_tool() {
     let wrong = Command::new("python3").arg(&terms).args(["make", "(x"]).output().unwrap();
     assert_eq!(wrong.status.code(), Some(1));
     assert!(String::from_utf8_lossy(&wrong.stderr).starts_with("terms: "));
+}
+
+/// What is no file is told before anything is built, and nothing is printed. What it prints for a file, the gate compares.
+#[test]
+fn glow_tool() {
+    for wrong in [&["nowhere.term"][..], &["examples"], &["--help"], &[""], &["one", "two"]] {
+        let done = Command::new(root().join("tools/glow")).args(wrong).current_dir(root()).output().unwrap();
+        assert_eq!((done.status.code(), done.stdout), (Some(2), vec![]), "{wrong:?}");
+        assert!(String::from_utf8_lossy(&done.stderr).starts_with("tools/glow: "), "{wrong:?}");
+    }
 }
 
 #[cfg(feature = "library")]
@@ -65,10 +75,10 @@ mod library {
 
     /// What a C program prints that is compiled with the header and the library.
     fn printed_by(source: &Path, name: &str) -> String {
-        let lib = std::env::var("GLOW_LIB_DIR").unwrap_or_else(|_| root().join("target/staticlib").display().to_string());
+        let lib = std::env::var("GLOW_LIB_DIR").unwrap_or_else(|_| root().join("target/lib").display().to_string());
         let out = std::env::temp_dir().join(format!("glow-{name}-{}", std::process::id()));
         let cc = Command::new("cc").args(["-std=c99", "-Wall", "-Wextra", "-Werror", "-pedantic", "-I"]).arg(root().join("embed")).arg(source)
-            .arg(Path::new(&lib).join("libembed.a")).args(["-o"]).arg(&out).args(["-lpthread", "-ldl", "-lm"]).output().unwrap();
+            .arg(Path::new(&lib).join("libglow.a")).args(["-o"]).arg(&out).args(["-lpthread", "-ldl", "-lm"]).output().unwrap();
         assert!(cc.status.success(), "cc: {}", String::from_utf8_lossy(&cc.stderr));
         let ran = Command::new(&out).output().unwrap();
         let _ = std::fs::remove_file(&out);
