@@ -38,7 +38,7 @@ impl Place {
     fn new(name: &str) -> Place {
         let dir = std::env::temp_dir().join(format!("glow-manual-{name}-{}", std::process::id()));
         std::fs::create_dir_all(&dir).unwrap();
-        std::fs::write(dir.join("glow"), format!("if [ $# = 0 ]; then exec '{0}'; else exec '{0}' < \"$1\"; fi\n", program().display())).unwrap();
+        std::fs::write(dir.join("glow"), format!("[ \"${{1:--}}\" = - ] || exec < \"$1\"\nexec '{}'\n", program().display())).unwrap();
         Place(dir)
     }
     /// The command with the program, the library and the directory of this test in the places of the user's.
