@@ -325,6 +325,7 @@ fn names_and_numbers() {
     let text = manual();
     assert_eq!((header_table(&text, "status", "glow_status"), header_table(&text, "element", "glow_report")), (Ok(5), Ok(12)));
     assert_eq!((constants(&text), sentences(&text)), (Ok(5), Ok(11)));
+    for path in ["README.md", "tests/README.md"] { assert!(read(path).contains(&format!("at most {} bytes of stack", grouped(glow::STACK_FOR_A_CALL))), "{path}"); }
 }
 
 /// The fields of a record of the definitions, in their order.
