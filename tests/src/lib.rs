@@ -8,6 +8,7 @@ pub mod families;
 pub mod file;
 pub mod flat;
 pub mod machine;
+pub mod markdown;
 pub mod painted;
 pub mod prng;
 pub mod process;

@@ -1,0 +1,55 @@
+//! The checks themselves: each is tried on a manual with a mistake in it.
+use crate::links::links_lead;
+use crate::named::{arrays, constants, definitions, header_table, promises, sentences};
+use crate::shown::{outputs, pairs, Place};
+use crate::tried::{byte_by_byte, refusals, step_by_step, worked_runs};
+use crate::{manual, Checked};
+use glow_tests::process::root;
+
+/// A mistake put into the manual, which a check must find.
+fn found_out(check: impl Fn(&str) -> Checked, from: &str, to: &str) {
+    let text = manual();
+    assert!(text.contains(from), "the manual does not have {from:?}");
+    check(&text).unwrap();
+    assert!(check(&text.replacen(from, to, 1)).is_err(), "{to:?} for {from:?} was not found out");
+}
+
+/// The block of this command, and its output.
+fn one_pair(text: &str, command: &str) -> String {
+    let (shown, output) = pairs(text).unwrap().into_iter().find(|(shown, _)| shown.text.contains(command)).expect("the command");
+    format!("```sh\n{}```\n\n```text\n{}```\n", shown.text, output.text)
+}
+
+#[test]
+fn mistakes_are_found_out() {
+    found_out(refusals, "`01 00 01 00 03 00 00` |", "`01 00 01 00 02 00 00` |");
+    found_out(refusals, "cells 0", "cells 1");
+    found_out(refusals, "output 3", "output 4");
+    found_out(refusals, "`GLOW_NO_NODES` |", "`GLOW_NO_NAMES` |");
+    found_out(refusals, "`Chain` |", "`Entry` |");
+    found_out(refusals, "`Unbound`", "`Variable`");
+    found_out(worked_runs, "| budget 3 | normal `v0` |", "| budget 3 | spent |");
+    found_out(worked_runs, "| 21 | 3 | 5 |", "| 21 | 3 | 6 |");
+    found_out(step_by_step, "| leave-inert | `v1` |", "| leave-fun | `v1` |");
+    found_out(step_by_step, "| 11 3 4 |", "| 11 3 5 |");
+    found_out(byte_by_byte, "| 29 | `02 00` |", "| 29 | `03 00` |");
+    found_out(|text| header_table(text, "element", "glow_report"), "| 5 | `GLOW_LEAVE_FUN` |", "| 5 | `GLOW_LEAVE_INERT` |");
+    found_out(constants, "106,496 |", "106,497 |");
+    found_out(sentences, "2,072,576", "2,072,577");
+    found_out(sentences, "| name store | 32,768 |", "| name store | 16,384 |");
+    found_out(arrays, "`owns`, `nexts` |", "`nexts`, `owns` |");
+    found_out(arrays, "| 32,768 | enter |", "| 16,384 | enter |");
+    found_out(promises, "| `demand1` |", "| `demand2` |");
+    found_out(promises, "`stores-lengths`, ", "");
+    found_out(definitions, "[`harmony`]", "[`harmonies`]");
+    found_out(|text| links_lead(&root().join("docs/REFERENCE.md"), text), "specs/Calculus.antt", "specs/Calculs.antt");
+    found_out(|text| links_lead(&root().join("docs/REFERENCE.md"), text), "(#sources)", "(#source)");
+    let kinds = |text: &str| pairs(text).map(|pairs| pairs.len());
+    found_out(kinds, "```text\n", "```\n");
+    found_out(kinds, "```sh\n", "```bash\n");
+    found_out(kinds, "budget: u32,\n", "budget: u64,\n");
+    let place = Place::new("mistakes");
+    let shown = one_pair(&manual(), "tools/glow examples/03");
+    outputs(&shown, &place).unwrap();
+    assert!(outputs(&shown.replacen("beta 2", "beta 3", 1), &place).is_err() && outputs(&shown.replacen("03-example-1", "no-such", 1), &place).is_err());
+}

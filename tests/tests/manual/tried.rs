@@ -1,0 +1,153 @@
+//! The manual's refusals, worked runs and worked file, each tried.
+use crate::{c_enum, manual, need, number, read, same, table, Checked};
+use glow_tests::case::{told, Case};
+use glow_tests::flat::from_text;
+use glow_tests::machine::{evaluate_watched, Answer, Lengths, Outcome, Step, GLOW_BUDGET};
+use glow_tests::markdown::quoted;
+use glow_tests::process::{file_of, program, root, run};
+use std::process::Command;
+
+/// The case that a crate's function `number` gives this number.
+fn rattle_case(path: &str, n: usize) -> Option<String> {
+    let end = format!(" => {n},");
+    read(path).lines().find_map(|line| line.trim().strip_prefix("Refusal::")?.strip_suffix(&end).map(String::from))
+}
+
+fn right_names(n: usize) -> [String; 3] {
+    let rattle = rattle_case(if n < 8 { "crates/termfile/src/lib.rt" } else { "crates/stepping/src/lib.rt" }, n).expect("a case");
+    let c = c_enum("glow_refusal").into_iter().find(|(_, k)| *k == n).expect("a constant").0;
+    let rust = if n < 8 { format!("{:?}", glow::FileRefusal::of(n as u64).unwrap()) } else { format!("{:?}", glow::Refusal::of(n as u64).unwrap()) };
+    [rattle, c, rust]
+}
+
+/// `cells 0`: glow's budget and stores, but for what is said.
+fn calling(said: &[&str]) -> Result<(u32, Lengths), String> {
+    let (mut budget, mut l) = (GLOW_BUDGET, Lengths::glow());
+    for word in said.iter().filter(|word| !word.is_empty()) {
+        let (what, n) = word.split_once(' ').ok_or(format!("{word:?} is not a store and its length"))?;
+        let n = number(n)?;
+        match what {
+            "budget" => budget = n as u32,
+            "nodes" => (l.tags, l.args) = (n, n),
+            "cells" => (l.codes, l.owns, l.nexts) = (n, n, n),
+            "names" => l.places = n,
+            "renumber" => l.renumber = n,
+            "output" => (l.out_tags, l.out_args) = (n, n),
+            _ => return Err(format!("{what} is no store")),
+        }
+    }
+    Ok((budget, l))
+}
+
+/// The answer of the library, through the wrapper, and of the second implementation, which have to be the same.
+fn answered(file: &[u8], budget: u32, l: Lengths) -> Result<Answer, String> {
+    let mut stores = glow::Stores::new(l.tags, l.codes, l.places, l.renumber, l.out_tags);
+    let f = file.get(..2).map_or(0, |two| u16::from_le_bytes([two[0], two[1]]) as usize);
+    let answer = told(f, stores.evaluate(file, budget));
+    same("the library's answer", &answer, &Case::new(file, budget, l).check())?;
+    Ok(answer)
+}
+
+/// 1 to 7: bytes in hexadecimal, through the library and the program.
+fn refused_file(n: usize, example: &str) -> Result<(), String> {
+    let bytes = quoted(example).concat();
+    let file: Vec<u8> = bytes.split_whitespace().map(|b| u8::from_str_radix(b, 16)).collect::<Result<_, _>>().map_err(|why| format!("{bytes}: {why}"))?;
+    same(example, answered(&file, GLOW_BUDGET, Lengths::glow())?, Answer::FileRefused(n as u8))?;
+    let ended = run(Command::new(program()).stdin(file_of(&file)));
+    same(example, ended.out.concat(), format!("refused {n}\n").into_bytes())
+}
+
+/// 8 to 12: a term, f and the length of a store, through the library.
+fn refused_run(n: usize, example: &str) -> Result<(), String> {
+    let parts: Vec<&str> = example.split(',').map(str::trim).collect();
+    let [term, f, store] = parts[..] else { return Err(format!("{example}: not a term, f and a store")) };
+    let f = number(f.strip_prefix("f = ").ok_or(format!("{f:?} does not tell f"))?)?;
+    let (budget, l) = calling(&[store])?;
+    match answered(&from_text(f, &quoted(term).concat()).file(), budget, l)? {
+        Answer::Ran(run) => same(example, run.outcome, Outcome::Refused(n as u8)),
+        Answer::FileRefused(k) => Err(format!("{example}: the file is refused by {k}")),
+    }
+}
+
+pub fn refusals(text: &str) -> Checked {
+    let rows = table(text, &["number", "condition", "example", "Rattle", "C", "Rust"])?.rows;
+    for (row, n) in rows.iter().zip(1..) {
+        same("the refusals", number(&row[0])?, n)?;
+        match n { 1..=7 => refused_file(n, &row[2])?, 8..=12 => refused_run(n, &row[2])?, _ => need(row[2].starts_with("none"), || row[2].clone())? }
+        same(&format!("refusal {n}"), [&row[3], &row[4], &row[5]].map(|cell| quoted(cell).concat()), right_names(n))?;
+    }
+    Ok(rows.len())
+}
+
+#[test]
+fn each_refusal() {
+    assert_eq!(refusals(&manual()), Ok(13));
+    assert_eq!(c_enum("glow_refusal").len(), 13);
+}
+
+/// The outcome as the table has it: normal `v0`, spent, refused 9.
+fn outcome_shown(outcome: &Outcome) -> String {
+    match outcome { Outcome::Normal(term) => format!("normal `{}`", term.text()), Outcome::Spent => "spent".into(), Outcome::Refused(n) => format!("refused {n}") }
+}
+
+pub fn worked_runs(text: &str) -> Checked {
+    let rows = table(text, &["case", "f", "term", "with", "outcome", "beta", "subst", "enter", "leave-fun", "leave-inert", "nodes", "cells", "names"])?.rows;
+    for (row, letter) in rows.iter().zip('a'..) {
+        let (budget, l) = calling(&[&row[3]])?;
+        let answer = answered(&from_text(number(&row[1])?, &quoted(&row[2]).concat()).file(), budget, l)?;
+        let (c, s) = (answer.run().counts, answer.run().figures);
+        let right: Vec<String> = [c.beta, c.subst, c.enter, c.leave_fun, c.leave_inert, s.nodes, s.cells, s.names].map(|n| n.to_string()).into();
+        same("the cases", row[0].as_str(), &letter.to_string())?;
+        same(&format!("case {letter}"), &row[4], &outcome_shown(&answer.run().outcome))?;
+        same(&format!("case {letter}"), &row[5..], &right)?;
+    }
+    Ok(rows.len())
+}
+
+#[test]
+fn each_worked_run() { assert!(worked_runs(&manual()).unwrap() >= 10); }
+
+fn step_name(step: Option<Step>) -> &'static str {
+    match step { None => "start", Some(Step::Beta) => "beta", Some(Step::Subst) => "subst", Some(Step::Enter) => "enter", Some(Step::LeaveFun) => "leave-fun", Some(Step::LeaveInert) => "leave-inert" }
+}
+
+const WORKED_FILE: &str = "examples/03-example-1.term";
+
+/// The states of a run by the second machine, as the manual's table has them.
+fn states(file: &[u8]) -> Vec<Vec<String>> {
+    let (mut all, mut before, mut last) = (Vec::new(), None, String::new());
+    evaluate_watched(file, GLOW_BUDGET, &Lengths::glow(), |m| {
+        let s = m.figures;
+        let term = format!("`{}`", m.stands_for().text());
+        let mut row = vec![step_name(before).to_string()];
+        row.extend(m.shown());
+        row.push(format!("{} {} {}", s.nodes, s.cells, s.names));
+        row.push(if term == last { "same".into() } else { term.clone() });
+        all.push(row);
+        (before, last) = (m.fits(), term);
+    });
+    all
+}
+
+pub fn step_by_step(text: &str) -> Checked {
+    let rows = table(text, &["step", "code", "stack", "dump", "environment", "taken", "stands for"])?.rows;
+    let right = states(&std::fs::read(root().join(WORKED_FILE)).unwrap());
+    for (row, state) in rows.iter().zip(&right) { same("the run step by step", row, state)?; }
+    same("the states", rows.len(), right.len())?;
+    Ok(rows.len())
+}
+
+/// The file byte by byte: the bytes are the file's, and each row says where it stands.
+pub fn byte_by_byte(text: &str) -> Checked {
+    let rows = table(text, &["at", "bytes", "what"])?.rows;
+    let mut bytes = Vec::new();
+    for row in &rows {
+        same("the place in the file", number(&row[0])?, bytes.len())?;
+        bytes.extend(quoted(&row[1]).concat().split_whitespace().map(|b| u8::from_str_radix(b, 16).unwrap()));
+    }
+    same("the worked file", bytes, std::fs::read(root().join(WORKED_FILE)).unwrap())?;
+    Ok(rows.len())
+}
+
+#[test]
+fn the_worked_file() { assert_eq!((byte_by_byte(&manual()), step_by_step(&manual())), (Ok(12), Ok(11))); }
