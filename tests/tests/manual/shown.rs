@@ -36,7 +36,7 @@ impl Drop for Place { fn drop(&mut self) { let _ = std::fs::remove_dir_all(&self
 fn archive() -> PathBuf {
     let dir = std::env::var_os("GLOW_LIB_DIR").map_or_else(|| root().join("target/lib"), PathBuf::from);
     let dir = if dir.is_absolute() { dir } else { root().join(dir) };
-    ["libglow.a", "libembed.a"].iter().map(|name| dir.join(name)).find(|path| path.is_file()).unwrap_or_else(|| panic!("there is no library in {}", dir.display()))
+    dir.join("libglow.a")
 }
 
 fn words(text: &str) -> String { text.split_whitespace().collect::<Vec<_>>().join(" ") }
