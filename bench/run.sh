@@ -3,7 +3,7 @@
 # bench/growth.txt and drawn in docs/growth.svg. Sets up and builds what it needs. The old way needs 2 GiB of memory.
 set -euo pipefail
 cd "$(dirname "$0")/.."
-tools/setup kit cc rust valgrind
+tools/setup kit cc rust python valgrind
 . tools/path.sh
 tools/build
 new=$(mktemp)

@@ -12,7 +12,7 @@ extern "C" {
 /* What glow_evaluate returns. */
 enum glow_status {
     GLOW_NORMAL = 0,            /* the term is in the output arrays */
-    GLOW_SPENT = 1,             /* the budget ran out before the normal form */
+    GLOW_SPENT = 1,             /* the steps made equal the budget, and another step fits */
     GLOW_REFUSED = 2,           /* refusal 8 to 13, its number in report[GLOW_REFUSAL] */
     GLOW_FILE_REFUSED = 3,      /* refusal 1 to 7; only report[GLOW_REFUSAL] is written, no array is changed */
     GLOW_REPORT_TOO_SHORT = 4   /* report_len is below GLOW_REPORT_LEN; nothing is touched */

@@ -82,6 +82,22 @@ fn the_old_way_ends_at_its_memory() {
     }
 }
 
+/// Where it is full before an enter, its counts are as `full_after` has them.
+#[test]
+fn the_old_way_where_it_is_full() {
+    let mut seen = 0;
+    for n in 4..=12 {
+        for part in 50..100 {
+            let most = bytes_at(n) * part / 100;
+            let (end, machine) = old_way(&t(n as usize), most);
+            let before_an_enter = machine.bytes() + bytes(0, 1, 0) > most && machine.counts.beta == n;
+            assert_eq!(end, End::Full);
+            if before_an_enter { assert!(full_after(n, machine.counts.steps(), machine.bytes()), "n = {n}, {most} bytes"); seen += 1; }
+        }
+    }
+    assert!(seen >= 100, "{seen} runs");
+}
+
 /// A row of growth.txt: n and the words of the two sides.
 type Row = (usize, Vec<String>, Vec<String>);
 
@@ -107,6 +123,18 @@ fn old_words(n: u64) -> Vec<String> {
     vec![n.to_string(), counts_at(n).steps().to_string(), bytes_at(n).to_string(), "normal".into()]
 }
 
+/// Whether t_n can have taken these steps and bytes where the old way is full before an enter. By then it has made none, one or both copies of
+/// i_(n - 1), and what is left of its bytes are cells, one for each enter; of the enters no more are not left than the dump can hold.
+fn full_after(n: u64, steps: u64, taken: u64) -> bool {
+    (0..=2).any(|copies| {
+        let nodes = 5 * n + 1 + (4 << (n - 1)) - 4 - 2 * (n - 1) + copies * ((1 << n) - 1);
+        let Some(cells) = taken.checked_sub(bytes(nodes, 0, n + 1)) else { return false };
+        let enters = cells / bytes(0, 1, 0);
+        let Some(leaves) = steps.checked_sub(n + 2 * (n - 1) + copies + enters) else { return false };
+        cells % bytes(0, 1, 0) == 0 && (leaves..=leaves + n).contains(&enters)
+    })
+}
+
 /// What was measured is what is reported now. The old way's largest runs are not made again: they are those worked out above.
 #[test]
 fn the_figures_kept() {
@@ -121,7 +149,8 @@ fn the_figures_kept() {
     }
     let memory: u64 = text.split("past ").nth(1).unwrap().split(' ').next().unwrap().parse().unwrap();
     assert!(bytes_at(full as u64 - 1) <= memory && bytes_at(full as u64) > memory);
-    let taken: u64 = rows[full].2[2].parse().unwrap();
+    let [beta, steps, taken] = [0, 1, 2].map(|k| rows[full].2[k].parse::<u64>().unwrap());
+    assert!(beta == full as u64 && full_after(beta, steps, taken), "the counts where it is full");
     assert!(taken <= memory && taken + bytes(0, 1, 0) > memory, "it is full before an enter");
 }
 

@@ -29,9 +29,9 @@ pub fn constants(text: &str) -> Checked {
             _ => return Err(format!("{rust} is no constant")),
         };
         same(&rust, n, right)?;
-        let defined = header.lines().find_map(|line| line.strip_prefix("#define ")?.strip_prefix(c.as_str())).ok_or(format!("{c} is not defined"))?;
+        let defined = header.lines().find_map(|line| line.strip_prefix("#define ")?.strip_prefix(c.as_str())?.strip_prefix(' ')).ok_or(format!("{c} is not defined"))?;
         let defined = defined.split_whitespace().next().unwrap_or_default();
-        same(&c, defined.parse().unwrap_or(right), right)?;
+        if c == "GLOW_MOST_STACK_NEEDED" { same(&c, defined, "GLOW_STACK_NEEDED(GLOW_MOST_COUNTED,")?; } else { same(&c, number(defined)?, right)?; }
     }
     Ok(rows.len())
 }
@@ -58,6 +58,8 @@ pub fn sentences(text: &str) -> Checked {
         format!("| name store | {} |", grouped(names)),
         format!("| renumber store | {} |", grouped(renumber)),
         format!("| output | {} |", grouped(output)),
+        format!("3 for each node of the output, {} in all", grouped(3 * nodes + 6 * cells + 2 * (names + renumber) + 3 * output)),
+        format!("`GLOW_REPORT_LEN` is {}.", glow::REPORT_LEN),
         format!("f, the count of free names | 0 to {} |", grouped(free)),
         format!("n, the count of nodes | 1 to {} |", grouped(most)),
         format!("from {} to {}.", 4 + 3, grouped(4 + 3 * most)),
@@ -96,9 +98,11 @@ pub fn arrays(text: &str) -> Checked {
 fn names_and_numbers() {
     let text = manual();
     assert_eq!((header_table(&text, "status", "glow_status"), header_table(&text, "element", "glow_report")), (Ok(5), Ok(12)));
-    assert_eq!((constants(&text), sentences(&text), arrays(&text)), (Ok(5), Ok(15), Ok(5)));
+    assert_eq!((constants(&text), sentences(&text), arrays(&text)), (Ok(5), Ok(17), Ok(5)));
     assert_eq!(lent().len(), 9);
-    for path in ["README.md", "tests/README.md"] { assert!(read(path).contains(&format!("at most {} bytes of stack", grouped(glow::STACK_FOR_A_CALL))), "{path}"); }
+    let megabytes = |bytes: usize| format!("{:.1} MB", bytes as f64 / 1e6);
+    let stack = format!("up to {} of stack with the program's stores and {} with the largest", megabytes(glow::Stores::glow().stack_needed()), megabytes(glow::MOST_STACK_NEEDED));
+    assert!(read("README.md").contains(&stack), "{stack}");
 }
 
 /// The fields of a record of the definitions, in their order.
