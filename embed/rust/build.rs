@@ -12,7 +12,7 @@ fn main() {
     println!("cargo:rerun-if-changed={}", archive.display());
     if !archive.is_file() {
         eprintln!("glow: there is no file {}.", archive.display());
-        eprintln!("glow: GLOW_LIB_DIR is {dir}; it must be the directory that holds libglow.a.");
+        eprintln!("glow: GLOW_LIB_DIR is {dir}; it must be the directory that holds libglow.a. tools/build makes it, in target/lib.");
         std::process::exit(1);
     }
     println!("cargo:rustc-link-search=native={dir}");

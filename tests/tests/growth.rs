@@ -5,15 +5,13 @@ use glow_tests::families::{open_explosion, small_members};
 use glow_tests::flat::{canonical, Flat, F};
 use glow_tests::machine::{evaluate, Lengths, Outcome, Run, GLOW_BUDGET};
 use glow_tests::prng::Prng;
+use glow_tests::process::root;
 use glow_tests::random;
 use old::{bytes, Counts, End, Machine, Node};
-use std::path::{Path, PathBuf};
 use std::process::Command;
 
 /// The bytes that a run of the old way may take here.
 const MEMORY: u64 = 1 << 20;
-
-fn in_repository(name: &str) -> PathBuf { Path::new(env!("CARGO_MANIFEST_DIR")).join("..").join(name) }
 
 fn t(n: usize) -> Vec<u8> { canonical(1, &open_explosion(n)).file() }
 
@@ -138,7 +136,7 @@ fn full_after(n: u64, steps: u64, taken: u64) -> bool {
 /// What was measured is what is reported now. The old way's largest runs are not made again: they are those worked out above.
 #[test]
 fn the_figures_kept() {
-    let text = std::fs::read_to_string(in_repository("bench/growth.txt")).unwrap();
+    let text = std::fs::read_to_string(root().join("bench/growth.txt")).unwrap();
     let rows = rows(&text);
     assert_eq!(rows.iter().map(|row| row.0).collect::<Vec<_>>(), (0..=40).collect::<Vec<_>>());
     let full = rows.iter().position(|row| row.2.last().unwrap() == "full").expect("a row where the old way is full");
@@ -156,6 +154,6 @@ fn the_figures_kept() {
 
 #[test]
 fn the_picture_kept() {
-    let status = Command::new("python3").arg(in_repository("bench/picture.py")).arg("--check").status().expect("python3 runs");
+    let status = Command::new("python3").arg(root().join("bench/picture.py")).arg("--check").status().expect("python3 runs");
     assert!(status.success());
 }
