@@ -8,7 +8,7 @@ use native.Mathlib.Omega.{arith}
 use lib.Dec.{leb}
 use lib.ListN.{length, replicate, length-replicate}
 use borrow.Author.Tests.{leb-true, leb-false}
-use Rattle.machine.specs.Answer.{overlay}
+use Rattle.termfile.specs.Output.{overlay}
 use Rattle.machine.specs.Program.{million, glow}
 use Rattle.evaluator.specs.Calling.{told}
 use Rattle.evaluator.specs.Promise.{Memory, storesIn, Called}

@@ -4,7 +4,7 @@ use Prim.Native.Nat.{ℕ, _≤_, _<_}
 use mathlib.Core.Path.{_≡_}
 use mathlib.Core.List.{List}
 use lib.ListN.{length}
-use Rattle.machine.specs.Answer.{overlay}
+use Rattle.termfile.specs.Output.{overlay}
 use Rattle.machine.specs.Program.{million, glow}
 use Rattle.rendering.specs.Lines.{textOf}
 use Rattle.rendering.specs.Promise.{longestText}

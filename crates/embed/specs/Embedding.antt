@@ -5,7 +5,8 @@ use mathlib.Core.Path.{_≡_}
 use mathlib.Core.List.{List, [], _∷_}
 use lib.ListN.{length}
 use Rattle.machine.specs.Answer as machine
-use Rattle.machine.specs.Answer.{answer, overlay}
+use Rattle.termfile.specs.Output.{overlay}
+use Rattle.machine.specs.Answer.{answer}
 use Rattle.evaluator.specs.Promise.{Memory, storesIn, Called}
 use Rattle.evaluator.specs.declared.Answer.{Answer}
 

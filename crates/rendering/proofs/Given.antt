@@ -13,7 +13,8 @@ use Rattle.termfile.specs.Nodes.{Node}
 use Rattle.termfile.specs.File.{pairs}
 use Rattle.machine.specs.Run.{Stores, Run}
 use Rattle.machine.specs.Conditions.{Condition, result-fits, result-refused, run-spent, run-refused}
-use Rattle.machine.specs.Answer.{Outcome, normal, spent, refused, Report, Answer, written, outputLimit, overlay}
+use Rattle.termfile.specs.Output.{overlay}
+use Rattle.machine.specs.Answer.{Outcome, normal, spent, refused, Report, Answer, written, outputLimit}
 use Rattle.machine.specs.Demands.{Demand2, Demand3, Meets, file-refused, file-run}
 use Rattle.evaluator.specs.Calling.{told}
 use Rattle.evaluator.specs.Promise.{Memory, storesIn, Called}

@@ -5,7 +5,8 @@ use mathlib.Core.Path.{_≡_, refl, ap, _∙_}
 use mathlib.Core.List.{List}
 use native.Mathlib.Omega.{arith}
 use lib.ListN.{length}
-use Rattle.machine.specs.Answer.{Report, Answer, report, overlay}
+use Rattle.termfile.specs.Output.{overlay}
+use Rattle.machine.specs.Answer.{Report, Answer, report}
 use Rattle.rendering.specs.Lines.{lines}
 use Rattle.rendering.specs.Promise.{nodesWritten, nodesAt, nodesIn, Tellable, longestText, Renders}
 use Rattle.rendering.specs.declared.Rendered.the-variants.{Written, TooShort, NoAnswer}

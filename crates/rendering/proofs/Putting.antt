@@ -7,7 +7,7 @@ use mathlib.Core.List.{List, [], _∷_, _++_}
 use native.Mathlib.Omega.{arith}
 use lib.ListN.{length, set, drop, length-append}
 use lib.Seq.{sets, length-sets, sets-eq, set-comm}
-use Rattle.machine.specs.Answer.{overlay}
+use Rattle.termfile.specs.Output.{overlay}
 use Rattle.rendering.specs.Putting.{Room, Put}
 
 -- stores of one text and then of another behind it

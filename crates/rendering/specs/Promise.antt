@@ -7,7 +7,8 @@ use mathlib.Core.List.{List, []}
 use lib.ListN.{length, take}
 use Rattle.termfile.specs.Nodes.{Node}
 use Rattle.termfile.specs.File.{pairs}
-use Rattle.machine.specs.Answer.{Outcome, normal, spent, refused, Report, Answer, number-alone, report, outputLimit, overlay}
+use Rattle.termfile.specs.Output.{overlay}
+use Rattle.machine.specs.Answer.{Outcome, normal, spent, refused, Report, Answer, number-alone, report, outputLimit}
 use Rattle.rendering.specs.Lines.{shiftSum, lines}
 use Rattle.rendering.specs.declared.Rendered.{Rendered}
 use Rattle.rendering.specs.declared.Rendered.the-variants.{Written, TooShort, NoAnswer}

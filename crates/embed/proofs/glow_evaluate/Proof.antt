@@ -5,7 +5,7 @@ use mathlib.Core.Path.{refl, sym, ap, _∙_}
 use mathlib.Core.List.{[], _∷_}
 use lib.Seq.{sets-eq}
 use Rattle.termfile.specs.Answer.{number}
-use Rattle.machine.specs.Answer.{overlay}
+use Rattle.termfile.specs.Output.{overlay}
 use Rattle.evaluator.specs.Calling.{told}
 use Rattle.embed.specs.Embedding.{statusOf, numbersOf}
 use borrow.Author.Needs.{needs}

@@ -5,7 +5,8 @@ use mathlib.Core.Path.{_≡_, sym, ap, _∙_, subst}
 use native.Mathlib.Omega.{arith}
 use lib.ListN.{length, take}
 use lib.Seq.{length-take-le}
-use Rattle.machine.specs.Answer.{report, overlay}
+use Rattle.termfile.specs.Output.{overlay}
+use Rattle.machine.specs.Answer.{report}
 use Rattle.evaluator.specs.Calling.{toldReport}
 use borrow.Author.Needs.{needs}
 use Rattle.rendering.specs.Lines.{shiftSum, lines}

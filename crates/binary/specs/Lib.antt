@@ -1,0 +1,4 @@
+pub mod Bits
+pub mod Reading
+pub mod Answer
+pub mod Exchange
