@@ -1,0 +1,3 @@
+// Import.
+mod cursor;
+mod node;
