@@ -1,2 +1,4 @@
 pub mod Ahead
 pub mod Indices
+pub mod Holding
+pub mod Places

@@ -1,3 +1,4 @@
 // Import.
 mod cursor;
 mod node;
+mod placing;
