@@ -2,3 +2,4 @@ pub mod Ahead
 pub mod Indices
 pub mod Holding
 pub mod Places
+pub mod Turns

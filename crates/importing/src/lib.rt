@@ -2,3 +2,4 @@
 mod cursor;
 mod node;
 mod placing;
+mod scanning;
