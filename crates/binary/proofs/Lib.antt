@@ -1,2 +1,5 @@
 pub mod Packing
+pub mod ReadBack
+pub mod Written
+pub mod Exchange
 pub mod Examples
