@@ -1,14 +1,15 @@
 -- A turn of scanning, for each kind of node. The invariant: the nodes up to a place stand in the arrays, and reading all of the bits comes to
 -- reading, at that place, what is ahead of the cursor.
 -- Assumes nothing.
-use Prim.Native.Nat.{ℕ, suc, _+_, _*_, _≤_, _<_}
+use Prim.Native.Nat.{ℕ, suc, _+_, _-_, _*_, _≤_, _<_}
 use mathlib.Core.Path.{_≡_, refl, sym, ap, _∙_, subst}
-use mathlib.Core.Bool.{Bool, true, false, _&&_}
-use mathlib.Core.List.{List, [], _∷_, _++_}
+use mathlib.Core.Bool.{Bool, true, false, cond, _&&_}
+use mathlib.Core.List.{List, [], _∷_, _++_, map}
 use native.Mathlib.Omega.{arith}
 use lib.Dec.{ltb}
 use lib.ListN.{length, length-append}
 use borrow.Author.Tests.{lt-ltb, le-ltb}
+use Rattle.fireball.specs.Term.{free, bound, size}
 use Rattle.termfile.specs.File.{maxFree, maxNodes}
 use Rattle.binary.specs.Bits.{bitsIn}
 use Rattle.binary.specs.Reading.{Place, whole, body, left, depth, Next, done, part, ended, variable, nothing, Reading, unread, within, onward, reading}
@@ -17,8 +18,8 @@ use Rattle.importing.specs.Ahead.{ahead, Sound, nodeRead, NodeAt}
 use Rattle.importing.specs.Holding.{around, nodesOf, nodesTo, openAt, Before, After, Ready, Closable}
 use Rattle.importing.specs.Scanning.{Roomy, readingOf, ReadTo}
 use Rattle.importing.proofs.Indices.{far-refused}
-use Rattle.importing.proofs.Holding.{around-depth, nodes-few, Ends, ended-is}
-use Rattle.importing.proofs.Places.{before-right, closable}
+use Rattle.importing.proofs.Holding.{around-depth, nodes-size, nodes-few, Ends, ended-is}
+use Rattle.importing.proofs.Places.{closable}
 use Rattle.importing.specs.declared.cursor.Cursor.{Cursor}
 use Rattle.importing.specs.declared.node.Node.{Node}
 use Rattle.importing.specs.declared.node.Node.the-variants.{Cut, Abstraction, Application, Variable}
@@ -70,9 +71,9 @@ module _ (f : ℕ) (s : List ℕ) (c : Cursor) (st : Spot) (ts ms xs ys : List �
   turn-cut w = node-next Cut w
 
   -- there is room for one more node
-  pub turn-ready : (r : Node) (d : Cursor) (a b o : ℕ) → st .nodes < maxNodes → length (ahead s d) + 2 ≤ length (ahead s c) → Roomy (length s) a
+  pub turn-ready : (d : Cursor) (a b o : ℕ) → st .nodes < maxNodes → length (ahead s d) + 2 ≤ length (ahead s c) → Roomy (length s) a
       → Roomy (length s) b → Roomy (length s) o → Ready st a b o
-  turn-ready r d a b o less short room-a room-b room-o =
+  turn-ready d a b o less short room-a room-b room-o =
       let n = nodes-few f (t .place) in
       let enough : 2 * st .nodes + 2 ≤ 8 * length s = omega (arith, t .enough) in
       record {
@@ -142,3 +143,88 @@ module _ (f : ℕ) (s : List ℕ) (c : Cursor) (st : Spot) (ts ms xs ys : List �
         turn-node (left (t .place)) d r ts′ ms′ xs′ ys′ (w .shorter .0) (w .shorter .1) (length-append (nodesTo f (t .place)) _ ∙ omega arith) h
         (node-next (Application d) w
         ∙ ap (λ q. within q (reading f nothing (left (t .place)) (suc (st .nodes)) (ahead s d))) (lt-ltb (st .nodes) maxNodes less))
+
+    -- a variable in range
+    module _ (k : ℕ) (d : Cursor) (near : k < st .depth + f) (w : NodeAt nothing 2 s c (Variable k d)) where
+      and-both : (a b : Bool) → a ≡ true → b ≡ true → a && b ≡ true
+      and-both a b p q = ap (λ x. x && b) p ∙ q
+
+      node-variable : readingOf f s ≡ behind k d
+      unfolding behind
+      node-variable =
+          node-next (Variable k d) w
+          ∙ ap (λ q. within q (behind k d))
+          (and-both (ltb (st .nodes) maxNodes) (ltb k (depth (t .place) + f)) (lt-ltb (st .nodes) maxNodes less)
+          (lt-ltb k (depth (t .place) + f) (omega (arith, depth-is))))
+
+      size-pick : (q : Bool) (y : ℕ) → size (cond q (bound k) (free y)) ≡ 1
+      size-pick true y = refl
+      size-pick false y = refl
+
+      -- once it is put, in arrays that then hold ts′ and ms′
+      module _ (r : Spot) (ts′ ms′ : List ℕ) (h : After f (t .place) (variable (st .depth) k) r ts′ ms′ xs ys) where
+        same-term : variable (st .depth) k ≡ variable (depth (t .place)) k
+        same-term = ap (λ m. variable m k) depth-is
+
+        after : After f (t .place) (variable (depth (t .place)) k) r ts′ ms′ xs ys
+        after = subst (λ v. After f (t .place) v r ts′ ms′ xs ys) same-term h
+
+        one-more : r .nodes ≡ suc (st .nodes)
+        one-more =
+            let v = variable (st .depth) k in
+            omega
+            (arith, h .count, length-append (nodesTo f (t .place)) (nodesOf f (t .place) v), nodes-size f (t .place) v,
+            size-pick (ltb k (st .depth)) (k - st .depth), t .holds .count)
+
+        -- no application is open: it ends the term
+        last-term : (x : Next) → ended (t .place) (variable (depth (t .place)) k) ≡ x → Ends f (t .place) (variable (depth (t .place)) k) x
+            → r .pending ≡ 0 → ReadTo f s (r .nodes) d ts′ ms′
+        unfolding behind
+        last-term (done u) e ends none-open =
+            record {
+              term = u;
+              read-is = node-variable ∙ ap (λ x. onward x (ahead s d) (λ q. reading f nothing q (suc (st .nodes)) (ahead s d))) e;
+              sound = w .shorter .0;
+              count = after .count ∙ ap length (ends .0);
+              tags-are = after .tags-are ∙ ap (map (λ n. n .tag)) (ends .0);
+              arguments-are = after .arguments-are ∙ ap (map (λ n. n .argument)) (ends .0);
+              few = omega (arith, one-more);
+            }
+        last-term (part q) e ends none-open = absurd (omega (arith, after .open-is, ap length (ends .open-are)))
+
+        pub variable-last : r .pending ≡ 0 → ReadTo f s (r .nodes) d ts′ ms′
+        variable-last = last-term (ended (t .place) (variable (depth (t .place)) k)) refl (ended-is f (t .place) (variable (depth (t .place)) k))
+
+        -- one is open: its right part is next
+        pub record Onward : Type 0 where
+          pub next : Place
+          pub ends : ended (t .place) (variable (st .depth) k) ≡ part next
+          pub longer : length (nodesTo f next) ≡ suc (length (nodesTo f (t .place)))
+          pub going : readingOf f s ≡ reading f nothing next (suc (st .nodes)) (ahead s d)
+
+        next-part : (x : Next) → ended (t .place) (variable (depth (t .place)) k) ≡ x → Ends f (t .place) (variable (depth (t .place)) k) x
+            → (r .pending ≡ 0 → ⊥) → Onward
+        unfolding behind
+        next-part (done u) e ends some-open = absurd (some-open (after .open-is ∙ ap length (ends .1)))
+        next-part (part q) e ends some-open =
+            record {
+              next = q;
+              ends = ap (ended (t .place)) same-term ∙ e;
+              longer =
+                  ap (λ p. length (nodesTo f p)) (ends .is-right)
+                  ∙ length-append (nodesTo f (ends .place)) (record { tag = 2; argument = size (ends .left-part) } ∷ nodesOf f (ends .place) (ends .left-part))
+                  ∙ sym (length-append (nodesTo f (ends .place)) (record { tag = 2; argument = depth (ends .place) } ∷ nodesOf f (ends .place) (ends .left-part)))
+                  ∙ sym (ap length (ends .nodes-are)) ∙ sym (after .count) ∙ one-more ∙ ap suc (t .holds .count);
+              going = node-variable ∙ ap (λ x. onward x (ahead s d) (λ p. reading f nothing p (suc (st .nodes)) (ahead s d))) e;
+            }
+
+        pub variable-part : (r .pending ≡ 0 → ⊥) → Onward
+        variable-part = next-part (ended (t .place) (variable (depth (t .place)) k)) refl (ended-is f (t .place) (variable (depth (t .place)) k))
+
+        pub part-closable : (o : Onward) → st .nodes < length ms′ → st .nodes < length ys → Closable r (length ms′) ys
+        part-closable o fits-arguments fits-apps =
+            closable f (t .place) (o .next) (variable (st .depth) k) r ts′ ms′ xs ys (o .ends) h (omega (arith, one-more)) (omega (arith, one-more))
+            (omega (arith, one-more))
+
+        pub turn-part : (o : Onward) (r′ : Spot) (ms″ : List ℕ) → Before f (o .next) r′ ts′ ms″ xs ys → Turn f s d r′ ts′ ms″ xs ys
+        turn-part o r′ ms″ b = turn-node (o .next) d r′ ts′ ms″ xs ys (w .shorter .0) (w .shorter .1) (o .longer) b (o .going)

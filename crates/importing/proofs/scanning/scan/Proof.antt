@@ -1,206 +1,243 @@
+-- `scanning::scan` meets its contract. The loop's invariant is `Turn`, and that the arrays keep their lengths. The measure is the number of
+-- bits ahead. Assumes nothing.
+use mathlib.Core.Path.{_≡_, refl, sym, subst, _∙_}
+use native.Mathlib.Omega.{arith}
+use lib.ListN.{length}
+use borrow.Author.Needs.{needs}
+use Rattle.binary.specs.Reading.{nothing}
+use Rattle.importing.specs.Ahead.{ahead, NodeAt}
+use Rattle.importing.specs.Scanning.{Roomy}
+use Rattle.importing.proofs.Turns.{Turn, turn-first, turn-cut, turn-ready, abstraction-beyond, application-beyond, variable-beyond, index-beyond, turn-abstraction, turn-application, variable-last, variable-part, part-closable, turn-part}
 use Rattle.importing.proofs.scanning.scan.Statement.{statement}
 use Rattle.importing.proofs.scanning.scan.Tie as tie
-use Rattle.importing.proofs.scanning.scan.Reads as reads
-use Rattle.importing.proofs.scanning.scan.Lts as lts
-use Rattle.importing.proofs.node.read_node.Reads as read-node-reads
-use Rattle.importing.proofs.placing.close_left.Reads as close-left-reads
-use Rattle.importing.proofs.placing.put_abstraction.Reads as put-abstraction-reads
-use Rattle.importing.proofs.placing.put_application.Reads as put-application-reads
-use Rattle.importing.proofs.placing.put_variable.Reads as put-variable-reads
 
 abbrev Inv-loop : tie.InvT-loop
-Inv-loop bits f tags₀ args₀ names₀ apps₀ c₀ spot₀ tags args names apps c spot = ?
+Inv-loop bits f tags₀ args₀ names₀ apps₀ c₀ spot₀ tags args names apps c spot =
+    Turn f bits c spot tags args names apps
+    × ((length tags ≡ length tags₀) × (length args ≡ length args₀) × (length names ≡ length names₀) × (length apps ≡ length apps₀))
 
 abbrev μ-loop : tie.MeasureT-loop
-μ-loop bits f tags₀ args₀ names₀ apps₀ c₀ spot₀ tags args names apps c spot = ?
+μ-loop bits f tags₀ args₀ names₀ apps₀ c₀ spot₀ tags args names apps c spot = length (ahead bits c)
 
--- src/scanning.rt:46:5
 loop-holds : tie.Need-loop-holds Inv-loop μ-loop
-loop-holds c = ?
+loop-holds c = (turn-first (c .before .before .before .before .before .args .f) (c .before .before .before .before .before .args .bits .now) (c .before .before .before .before .before .args .tags .now) (c .before .before .before .before .before .args .args .now) (c .before .before .before .before .before .args .names .now) (c .before .before .before .before .before .args .apps .now), (refl, refl, refl, refl))
 
--- src/scanning.rt:47:15
 read-node-requires : tie.Need-read-node-requires Inv-loop μ-loop
-read-node-requires c κs = ?
+read-node-requires c κs = c .loop .inv .0 .sound
 
--- src/scanning.rt:48:26
 enum-told : tie.Need-enum-told Inv-loop μ-loop
-enum-told c = ?
+enum-told c = search needs
 
--- src/scanning.rt:48:26
 same-length : tie.Need-same-length Inv-loop μ-loop
-same-length c = ?
+same-length c = c .before .before .before .loop .inv .1 .0
 
--- src/scanning.rt:48:26
 same-length-2 : tie.Need-same-length-2 Inv-loop μ-loop
-same-length-2 c = ?
+same-length-2 c = c .before .before .before .loop .inv .1 .1
 
--- src/scanning.rt:48:26
 same-length-3 : tie.Need-same-length-3 Inv-loop μ-loop
-same-length-3 c = ?
+same-length-3 c = c .before .before .before .loop .inv .1 .2
 
--- src/scanning.rt:48:26
 same-length-4 : tie.Need-same-length-4 Inv-loop μ-loop
-same-length-4 c = ?
+same-length-4 c = c .before .before .before .loop .inv .1 .3
 
--- src/scanning.rt:48:26
 returns : tie.Need-returns Inv-loop μ-loop
-returns c = ?
+returns c =
+    let l = c .before .before .before .loop in
+    let a = c .before .before .before .before .before .before .before .before .before .args in
+    turn-cut (a .f) (a .bits .now) (l .c) (l .spot) (l .tags) (l .args) (l .names) (l .apps) (c .before .before .before .before .before .before .before .before .before .pre .0) (l .inv .0) (subst (NodeAt nothing 2 _ _) (c .enum-told .given .1) (c .before .before .read-node .ensures))
 
--- src/scanning.rt:49:31
 enum-known-next : tie.Need-enum-known-next Inv-loop μ-loop
-enum-known-next c = ?
+enum-known-next c = search needs
 
--- src/scanning.rt:51:21
 same-length-5 : tie.Need-same-length-5 Inv-loop μ-loop
-same-length-5 c = ?
+same-length-5 c = c .before .before .before .before .before .before .loop .inv .1 .0
 
--- src/scanning.rt:51:21
 same-length-6 : tie.Need-same-length-6 Inv-loop μ-loop
-same-length-6 c = ?
+same-length-6 c = c .before .before .before .before .before .before .loop .inv .1 .1
 
--- src/scanning.rt:51:21
 same-length-7 : tie.Need-same-length-7 Inv-loop μ-loop
-same-length-7 c = ?
+same-length-7 c = c .before .before .before .before .before .before .loop .inv .1 .2
 
--- src/scanning.rt:51:21
 same-length-8 : tie.Need-same-length-8 Inv-loop μ-loop
-same-length-8 c = ?
+same-length-8 c = c .before .before .before .before .before .before .loop .inv .1 .3
 
--- src/scanning.rt:51:21
 returns-2 : tie.Need-returns-2 Inv-loop μ-loop
-returns-2 c = ?
+returns-2 c =
+    let l = c .before .before .before .before .before .before .loop in
+    let a = c .before .before .before .before .before .before .before .before .before .before .before .before .args in
+    abstraction-beyond (a .f) (a .bits .now) (l .c) (l .spot) (l .tags) (l .args) (l .names) (l .apps) (c .before .before .before .before .before .before .before .before .before .before .before .before .pre .0) (l .inv .0) _ (c .if1 .taken) (subst (NodeAt nothing 2 _ _) (c .before .before .before .next .given .1) (c .before .before .before .before .before .read-node .ensures))
 
--- src/scanning.rt:53:17
 put-abstraction-requires : tie.Need-put-abstraction-requires Inv-loop μ-loop
-put-abstraction-requires c κs = ?
+put-abstraction-requires c κs =
+    let l = c .before .before .before .before .before .before .before .before .before .loop in
+    let a = c .before .before .before .before .before .before .before .before .before .before .before .before .before .before .before .args in
+    let w = (subst (NodeAt nothing 2 _ _) (c .before .before .before .before .before .before .next .given .1) (c .before .before .before .before .before .before .before .before .read-node .ensures)) in
+    turn-ready (a .f) (a .bits .now) (l .c) (l .spot) (l .tags) (l .args) (l .names) (l .apps) (c .before .before .before .before .before .before .before .before .before .before .before .before .before .before .before .pre .0) (l .inv .0) _ _ _ _ (c .before .before .before .if1 .left) (w .shorter .1) (subst (Roomy _) (sym (l .inv .1 .0)) (c .before .before .before .before .before .before .before .before .before .before .before .before .before .before .before .pre .1 .0)) (subst (Roomy _) (sym (l .inv .1 .1)) (c .before .before .before .before .before .before .before .before .before .before .before .before .before .before .before .pre .1 .1 .0)) (subst (Roomy _) (sym (l .inv .1 .2)) (c .before .before .before .before .before .before .before .before .before .before .before .before .before .before .before .pre .1 .1 .1 .0))
 
--- src/scanning.rt:46:5
 loop-less : tie.Need-loop-less Inv-loop μ-loop
-loop-less c = ?
+loop-less c =
+    let l = c .before .before .before .before .before .before .before .before .before .before .before .before .before .before .before .before .loop in
+    let a = c .before .before .before .before .before .before .before .before .before .before .before .before .before .before .before .before .before .before .before .before .before .before .args in
+    let w = (subst (NodeAt nothing 2 _ _) (c .before .before .before .before .before .before .before .before .before .before .before .before .before .next .given .1) (c .before .before .before .before .before .before .before .before .before .before .before .before .before .before .before .read-node .ensures)) in
+    omega (arith, w .shorter .1)
 
--- src/scanning.rt:46:5
 loop-again : tie.Need-loop-again Inv-loop μ-loop
-loop-again c = ?
+loop-again c =
+    let l = c .before .before .before .before .before .before .before .before .before .before .before .before .before .before .before .before .loop in
+    let a = c .before .before .before .before .before .before .before .before .before .before .before .before .before .before .before .before .before .before .before .before .before .before .args in
+    let w = (subst (NodeAt nothing 2 _ _) (c .before .before .before .before .before .before .before .before .before .before .before .before .before .next .given .1) (c .before .before .before .before .before .before .before .before .before .before .before .before .before .before .before .read-node .ensures)) in
+    let r = c .before .before .before .before .before .before .put-abstraction in (
+      turn-abstraction (a .f) (a .bits .now) (l .c) (l .spot) (l .tags) (l .args) (l .names) (l .apps) (c .before .before .before .before .before .before .before .before .before .before .before .before .before .before .before .before .before .before .before .before .before .before .pre .0) (l .inv .0) (c .before .before .before .before .before .before .before .before .before .before .if1 .left) _ _ _ _ _ _ w (r .ensures (a .f) (l .inv .0 .place) (l .apps) (l .inv .0 .holds)),
+      (r .kept .0 ∙ l .inv .1 .0, r .kept .1 .0 ∙ l .inv .1 .1, r .kept .1 .1 .0 ∙ l .inv .1 .2, l .inv .1 .3),
+    )
 
--- src/scanning.rt:56:31
 enum-known-next-2 : tie.Need-enum-known-next-2 Inv-loop μ-loop
-enum-known-next-2 c = ?
+enum-known-next-2 c = search needs
 
--- src/scanning.rt:58:21
 same-length-9 : tie.Need-same-length-9 Inv-loop μ-loop
-same-length-9 c = ?
+same-length-9 c = c .before .before .before .before .before .before .loop .inv .1 .0
 
--- src/scanning.rt:58:21
 same-length-10 : tie.Need-same-length-10 Inv-loop μ-loop
-same-length-10 c = ?
+same-length-10 c = c .before .before .before .before .before .before .loop .inv .1 .1
 
--- src/scanning.rt:58:21
 same-length-11 : tie.Need-same-length-11 Inv-loop μ-loop
-same-length-11 c = ?
+same-length-11 c = c .before .before .before .before .before .before .loop .inv .1 .2
 
--- src/scanning.rt:58:21
 same-length-12 : tie.Need-same-length-12 Inv-loop μ-loop
-same-length-12 c = ?
+same-length-12 c = c .before .before .before .before .before .before .loop .inv .1 .3
 
--- src/scanning.rt:58:21
 returns-3 : tie.Need-returns-3 Inv-loop μ-loop
-returns-3 c = ?
+returns-3 c =
+    let l = c .before .before .before .before .before .before .loop in
+    let a = c .before .before .before .before .before .before .before .before .before .before .before .before .args in
+    application-beyond (a .f) (a .bits .now) (l .c) (l .spot) (l .tags) (l .args) (l .names) (l .apps) (c .before .before .before .before .before .before .before .before .before .before .before .before .pre .0) (l .inv .0) _ (c .if2 .taken) (subst (NodeAt nothing 2 _ _) (c .before .before .before .next2 .given .1) (c .before .before .before .before .before .read-node .ensures))
 
--- src/scanning.rt:60:17
 put-application-requires : tie.Need-put-application-requires Inv-loop μ-loop
-put-application-requires c κs = ?
+put-application-requires c κs =
+    let l = c .before .before .before .before .before .before .before .before .before .loop in
+    let a = c .before .before .before .before .before .before .before .before .before .before .before .before .before .before .before .args in
+    let w = (subst (NodeAt nothing 2 _ _) (c .before .before .before .before .before .before .next2 .given .1) (c .before .before .before .before .before .before .before .before .read-node .ensures)) in
+    turn-ready (a .f) (a .bits .now) (l .c) (l .spot) (l .tags) (l .args) (l .names) (l .apps) (c .before .before .before .before .before .before .before .before .before .before .before .before .before .before .before .pre .0) (l .inv .0) _ _ _ _ (c .before .before .before .if2 .left) (w .shorter .1) (subst (Roomy _) (sym (l .inv .1 .0)) (c .before .before .before .before .before .before .before .before .before .before .before .before .before .before .before .pre .1 .0)) (subst (Roomy _) (sym (l .inv .1 .1)) (c .before .before .before .before .before .before .before .before .before .before .before .before .before .before .before .pre .1 .1 .0)) (subst (Roomy _) (sym (l .inv .1 .3)) (c .before .before .before .before .before .before .before .before .before .before .before .before .before .before .before .pre .1 .1 .1 .1))
 
--- src/scanning.rt:46:5
 loop-less-2 : tie.Need-loop-less-2 Inv-loop μ-loop
-loop-less-2 c = ?
+loop-less-2 c =
+    let l = c .before .before .before .before .before .before .before .before .before .before .before .before .before .before .before .before .loop in
+    let a = c .before .before .before .before .before .before .before .before .before .before .before .before .before .before .before .before .before .before .before .before .before .before .args in
+    let w = (subst (NodeAt nothing 2 _ _) (c .before .before .before .before .before .before .before .before .before .before .before .before .before .next2 .given .1) (c .before .before .before .before .before .before .before .before .before .before .before .before .before .before .before .read-node .ensures)) in
+    omega (arith, w .shorter .1)
 
--- src/scanning.rt:46:5
 loop-again-2 : tie.Need-loop-again-2 Inv-loop μ-loop
-loop-again-2 c = ?
+loop-again-2 c =
+    let l = c .before .before .before .before .before .before .before .before .before .before .before .before .before .before .before .before .loop in
+    let a = c .before .before .before .before .before .before .before .before .before .before .before .before .before .before .before .before .before .before .before .before .before .before .args in
+    let w = (subst (NodeAt nothing 2 _ _) (c .before .before .before .before .before .before .before .before .before .before .before .before .before .next2 .given .1) (c .before .before .before .before .before .before .before .before .before .before .before .before .before .before .before .read-node .ensures)) in
+    let r = c .before .before .before .before .before .before .put-application in (
+      turn-application (a .f) (a .bits .now) (l .c) (l .spot) (l .tags) (l .args) (l .names) (l .apps) (c .before .before .before .before .before .before .before .before .before .before .before .before .before .before .before .before .before .before .before .before .before .before .pre .0) (l .inv .0) (c .before .before .before .before .before .before .before .before .before .before .if2 .left) _ _ _ _ _ _ w (r .ensures (a .f) (l .inv .0 .place) (l .names) (l .inv .0 .holds)),
+      (r .kept .0 ∙ l .inv .1 .0, r .kept .1 .0 ∙ l .inv .1 .1, l .inv .1 .2, r .kept .1 .1 .0 ∙ l .inv .1 .3),
+    )
 
--- src/scanning.rt:63:28
 enum-known-k : tie.Need-enum-known-k Inv-loop μ-loop
-enum-known-k c = ?
+enum-known-k c = search needs
 
--- src/scanning.rt:65:21
 same-length-13 : tie.Need-same-length-13 Inv-loop μ-loop
-same-length-13 c = ?
+same-length-13 c = c .before .before .before .before .before .before .loop .inv .1 .0
 
--- src/scanning.rt:65:21
 same-length-14 : tie.Need-same-length-14 Inv-loop μ-loop
-same-length-14 c = ?
+same-length-14 c = c .before .before .before .before .before .before .loop .inv .1 .1
 
--- src/scanning.rt:65:21
 same-length-15 : tie.Need-same-length-15 Inv-loop μ-loop
-same-length-15 c = ?
+same-length-15 c = c .before .before .before .before .before .before .loop .inv .1 .2
 
--- src/scanning.rt:65:21
 same-length-16 : tie.Need-same-length-16 Inv-loop μ-loop
-same-length-16 c = ?
+same-length-16 c = c .before .before .before .before .before .before .loop .inv .1 .3
 
--- src/scanning.rt:65:21
 returns-4 : tie.Need-returns-4 Inv-loop μ-loop
-returns-4 c = ?
+returns-4 c =
+    let l = c .before .before .before .before .before .before .loop in
+    let a = c .before .before .before .before .before .before .before .before .before .before .before .before .args in
+    variable-beyond (a .f) (a .bits .now) (l .c) (l .spot) (l .tags) (l .args) (l .names) (l .apps) (c .before .before .before .before .before .before .before .before .before .before .before .before .pre .0) (l .inv .0) _ _ (c .if3 .taken) (subst (NodeAt nothing 2 _ _) (c .before .before .before .k .given .1) (c .before .before .before .before .before .read-node .ensures))
 
--- src/scanning.rt:67:25
 add-if4 : tie.Need-add-if4 Inv-loop μ-loop
-add-if4 c = ?
+add-if4 c =
+    let l = c .before .before .before .before .before .before .before .loop in
+    let a = c .before .before .before .before .before .before .before .before .before .before .before .before .before .args in
+    let w = (subst (NodeAt nothing 2 _ _) (c .before .before .before .before .k .given .1) (c .before .before .before .before .before .before .read-node .ensures)) in
+    let ready = turn-ready (a .f) (a .bits .now) (l .c) (l .spot) (l .tags) (l .args) (l .names) (l .apps) (c .before .before .before .before .before .before .before .before .before .before .before .before .before .pre .0) (l .inv .0) _ _ _ _ (c .before .if3 .left) (w .shorter .1) (subst (Roomy _) (sym (l .inv .1 .0)) (c .before .before .before .before .before .before .before .before .before .before .before .before .before .pre .1 .0)) (subst (Roomy _) (sym (l .inv .1 .1)) (c .before .before .before .before .before .before .before .before .before .before .before .before .before .pre .1 .1 .0)) (subst (Roomy _) (sym (l .inv .1 .2)) (c .before .before .before .before .before .before .before .before .before .before .before .before .before .pre .1 .1 .1 .0)) in
+    omega (arith, ready .few-deep, ready .few-nodes, c .before .before .before .before .before .before .before .before .before .before .before .before .before .pre .0)
 
--- src/scanning.rt:68:21
 same-length-17 : tie.Need-same-length-17 Inv-loop μ-loop
-same-length-17 c = ?
+same-length-17 c = c .before .before .before .before .before .before .before .before .loop .inv .1 .0
 
--- src/scanning.rt:68:21
 same-length-18 : tie.Need-same-length-18 Inv-loop μ-loop
-same-length-18 c = ?
+same-length-18 c = c .before .before .before .before .before .before .before .before .loop .inv .1 .1
 
--- src/scanning.rt:68:21
 same-length-19 : tie.Need-same-length-19 Inv-loop μ-loop
-same-length-19 c = ?
+same-length-19 c = c .before .before .before .before .before .before .before .before .loop .inv .1 .2
 
--- src/scanning.rt:68:21
 same-length-20 : tie.Need-same-length-20 Inv-loop μ-loop
-same-length-20 c = ?
+same-length-20 c = c .before .before .before .before .before .before .before .before .loop .inv .1 .3
 
--- src/scanning.rt:68:21
 returns-5 : tie.Need-returns-5 Inv-loop μ-loop
-returns-5 c = ?
+returns-5 c =
+    let l = c .before .before .before .before .before .before .before .before .loop in
+    let a = c .before .before .before .before .before .before .before .before .before .before .before .before .before .before .args in
+    index-beyond (a .f) (a .bits .now) (l .c) (l .spot) (l .tags) (l .args) (l .names) (l .apps) (c .before .before .before .before .before .before .before .before .before .before .before .before .before .before .pre .0) (l .inv .0) _ _ (c .if4 .taken) (subst (NodeAt nothing 2 _ _) (c .before .before .before .before .before .k .given .1) (c .before .before .before .before .before .before .before .read-node .ensures))
 
--- src/scanning.rt:70:17
 put-variable-requires : tie.Need-put-variable-requires Inv-loop μ-loop
-put-variable-requires c κs = ?
+put-variable-requires c κs =
+    let l = c .before .before .before .before .before .before .before .before .before .before .before .loop in
+    let a = c .before .before .before .before .before .before .before .before .before .before .before .before .before .before .before .before .before .args in
+    let w = (subst (NodeAt nothing 2 _ _) (c .before .before .before .before .before .before .before .before .k .given .1) (c .before .before .before .before .before .before .before .before .before .before .read-node .ensures)) in
+    (turn-ready (a .f) (a .bits .now) (l .c) (l .spot) (l .tags) (l .args) (l .names) (l .apps) (c .before .before .before .before .before .before .before .before .before .before .before .before .before .before .before .before .before .pre .0) (l .inv .0) _ _ _ _ (c .before .before .before .before .before .if3 .left) (w .shorter .1) (subst (Roomy _) (sym (l .inv .1 .0)) (c .before .before .before .before .before .before .before .before .before .before .before .before .before .before .before .before .before .pre .1 .0)) (subst (Roomy _) (sym (l .inv .1 .1)) (c .before .before .before .before .before .before .before .before .before .before .before .before .before .before .before .before .before .pre .1 .1 .0)) (subst (Roomy _) (sym (l .inv .1 .2)) (c .before .before .before .before .before .before .before .before .before .before .before .before .before .before .before .before .before .pre .1 .1 .1 .0)), omega (arith, c .before .before .before .before .before .before .before .before .before .before .before .before .before .before .before .before .before .pre .0, c .before .before .before .if4 .left))
 
--- src/scanning.rt:72:21
 same-length-21 : tie.Need-same-length-21 Inv-loop μ-loop
-same-length-21 c = ?
+same-length-21 c = c .before .before .before .before .before .before .put-variable .kept .0 ∙ c .before .before .before .before .before .before .before .before .before .before .before .before .before .before .before .before .before .before .loop .inv .1 .0
 
--- src/scanning.rt:72:21
 same-length-22 : tie.Need-same-length-22 Inv-loop μ-loop
-same-length-22 c = ?
+same-length-22 c = c .before .before .before .before .before .before .put-variable .kept .1 .0 ∙ c .before .before .before .before .before .before .before .before .before .before .before .before .before .before .before .before .before .before .loop .inv .1 .1
 
--- src/scanning.rt:72:21
 same-length-23 : tie.Need-same-length-23 Inv-loop μ-loop
-same-length-23 c = ?
+same-length-23 c = c .before .before .before .before .before .before .before .before .before .before .before .before .before .before .before .before .before .before .loop .inv .1 .2
 
--- src/scanning.rt:72:21
 same-length-24 : tie.Need-same-length-24 Inv-loop μ-loop
-same-length-24 c = ?
+same-length-24 c = c .before .before .before .before .before .before .before .before .before .before .before .before .before .before .before .before .before .before .loop .inv .1 .3
 
--- src/scanning.rt:72:21
 returns-6 : tie.Need-returns-6 Inv-loop μ-loop
-returns-6 c = ?
+returns-6 c =
+    let l = c .before .before .before .before .before .before .before .before .before .before .before .before .before .before .before .before .before .before .loop in
+    let a = c .before .before .before .before .before .before .before .before .before .before .before .before .before .before .before .before .before .before .before .before .before .before .before .before .args in
+    let w = (subst (NodeAt nothing 2 _ _) (c .before .before .before .before .before .before .before .before .before .before .before .before .before .before .before .k .given .1) (c .before .before .before .before .before .before .before .before .before .before .before .before .before .before .before .before .before .read-node .ensures)) in
+    let v = c .before .before .before .before .before .before .put-variable .ensures (a .f) (l .inv .0 .place) (l .apps) (l .inv .0 .holds) in
+    variable-last (a .f) (a .bits .now) (l .c) (l .spot) (l .tags) (l .args) (l .names) (l .apps) (c .before .before .before .before .before .before .before .before .before .before .before .before .before .before .before .before .before .before .before .before .before .before .before .before .pre .0) (l .inv .0) (c .before .before .before .before .before .before .before .before .before .before .before .before .if3 .left) _ _ (c .before .before .before .before .before .before .before .before .before .before .if4 .left) w _ _ _ v (c .if5 .taken)
 
--- src/scanning.rt:74:17
 close-left-requires : tie.Need-close-left-requires Inv-loop μ-loop
-close-left-requires c κs = ?
+close-left-requires c κs =
+    let l = c .before .before .before .before .before .before .before .before .before .before .before .before .before .before .before .before .before .before .before .before .loop in
+    let a = c .before .before .before .before .before .before .before .before .before .before .before .before .before .before .before .before .before .before .before .before .before .before .before .before .before .before .args in
+    let w = (subst (NodeAt nothing 2 _ _) (c .before .before .before .before .before .before .before .before .before .before .before .before .before .before .before .before .before .k .given .1) (c .before .before .before .before .before .before .before .before .before .before .before .before .before .before .before .before .before .before .before .read-node .ensures)) in
+    let v = c .before .before .before .before .before .before .before .before .put-variable .ensures (a .f) (l .inv .0 .place) (l .apps) (l .inv .0 .holds) in
+    let ready = turn-ready (a .f) (a .bits .now) (l .c) (l .spot) (l .tags) (l .args) (l .names) (l .apps) (c .before .before .before .before .before .before .before .before .before .before .before .before .before .before .before .before .before .before .before .before .before .before .before .before .before .before .pre .0) (l .inv .0) _ _ _ _ (c .before .before .before .before .before .before .before .before .before .before .before .before .before .before .if3 .left) (w .shorter .1) (subst (Roomy _) (sym (l .inv .1 .0)) (c .before .before .before .before .before .before .before .before .before .before .before .before .before .before .before .before .before .before .before .before .before .before .before .before .before .before .pre .1 .0)) (subst (Roomy _) (sym (l .inv .1 .1)) (c .before .before .before .before .before .before .before .before .before .before .before .before .before .before .before .before .before .before .before .before .before .before .before .before .before .before .pre .1 .1 .0)) (subst (Roomy _) (sym (l .inv .1 .3)) (c .before .before .before .before .before .before .before .before .before .before .before .before .before .before .before .before .before .before .before .before .before .before .before .before .before .before .pre .1 .1 .1 .1)) in
+    let o = variable-part (a .f) (a .bits .now) (l .c) (l .spot) (l .tags) (l .args) (l .names) (l .apps) (c .before .before .before .before .before .before .before .before .before .before .before .before .before .before .before .before .before .before .before .before .before .before .before .before .before .before .pre .0) (l .inv .0) (c .before .before .before .before .before .before .before .before .before .before .before .before .before .before .if3 .left) _ _ (c .before .before .before .before .before .before .before .before .before .before .before .before .if4 .left) w _ _ _ v (c .before .before .if5 .left) in
+    part-closable (a .f) (a .bits .now) (l .c) (l .spot) (l .tags) (l .args) (l .names) (l .apps) (c .before .before .before .before .before .before .before .before .before .before .before .before .before .before .before .before .before .before .before .before .before .before .before .before .before .before .pre .0) (l .inv .0) (c .before .before .before .before .before .before .before .before .before .before .before .before .before .before .if3 .left) _ _ (c .before .before .before .before .before .before .before .before .before .before .before .before .if4 .left) w _ _ _ v o (subst (λ n. _ < n) (sym (c .before .before .before .before .before .before .before .before .put-variable .kept .1 .0)) (ready .argument-fits)) ?
 
--- src/scanning.rt:46:5
 loop-less-3 : tie.Need-loop-less-3 Inv-loop μ-loop
-loop-less-3 c = ?
+loop-less-3 c =
+    let l = c .before .before .before .before .before .before .before .before .before .before .before .before .before .before .before .before .before .before .before .before .before .before .before .loop in
+    let a = c .before .before .before .before .before .before .before .before .before .before .before .before .before .before .before .before .before .before .before .before .before .before .before .before .before .before .before .before .before .args in
+    let w = (subst (NodeAt nothing 2 _ _) (c .before .before .before .before .before .before .before .before .before .before .before .before .before .before .before .before .before .before .before .before .k .given .1) (c .before .before .before .before .before .before .before .before .before .before .before .before .before .before .before .before .before .before .before .before .before .before .read-node .ensures)) in
+    omega (arith, w .shorter .1)
 
--- src/scanning.rt:46:5
 loop-again-3 : tie.Need-loop-again-3 Inv-loop μ-loop
-loop-again-3 c = ?
+loop-again-3 c =
+    let l = c .before .before .before .before .before .before .before .before .before .before .before .before .before .before .before .before .before .before .before .before .before .before .before .loop in
+    let a = c .before .before .before .before .before .before .before .before .before .before .before .before .before .before .before .before .before .before .before .before .before .before .before .before .before .before .before .before .before .args in
+    let w = (subst (NodeAt nothing 2 _ _) (c .before .before .before .before .before .before .before .before .before .before .before .before .before .before .before .before .before .before .before .before .k .given .1) (c .before .before .before .before .before .before .before .before .before .before .before .before .before .before .before .before .before .before .before .before .before .before .read-node .ensures)) in
+    let v = c .before .before .before .before .before .before .before .before .before .before .before .put-variable .ensures (a .f) (l .inv .0 .place) (l .apps) (l .inv .0 .holds) in
+    let r = c .before .before .close-left in
+    let o = variable-part (a .f) (a .bits .now) (l .c) (l .spot) (l .tags) (l .args) (l .names) (l .apps) (c .before .before .before .before .before .before .before .before .before .before .before .before .before .before .before .before .before .before .before .before .before .before .before .before .before .before .before .before .before .pre .0) (l .inv .0) (c .before .before .before .before .before .before .before .before .before .before .before .before .before .before .before .before .before .if3 .left) _ _ (c .before .before .before .before .before .before .before .before .before .before .before .before .before .before .before .if4 .left) w _ _ _ v (c .before .before .before .before .before .if5 .left) in (
+      turn-part (a .f) (a .bits .now) (l .c) (l .spot) (l .tags) (l .args) (l .names) (l .apps) (c .before .before .before .before .before .before .before .before .before .before .before .before .before .before .before .before .before .before .before .before .before .before .before .before .before .before .before .before .before .pre .0) (l .inv .0) (c .before .before .before .before .before .before .before .before .before .before .before .before .before .before .before .before .before .if3 .left) _ _ (c .before .before .before .before .before .before .before .before .before .before .before .before .before .before .before .if4 .left) w _ _ _ v o _ _ (r .ensures (a .f) (l .inv .0 .place) (o .next) _ _ (l .names) (o .ends) v),
+      (c .before .before .before .before .before .before .before .before .before .before .before .put-variable .kept .0 ∙ l .inv .1 .0, r .kept .0 ∙ c .before .before .before .before .before .before .before .before .before .before .before .put-variable .kept .1 .0 ∙ l .inv .1 .1, l .inv .1 .2, l .inv .1 .3),
+    )
 
 pub scan-spec : {M : Type 1} → statement M
 scan-spec =
