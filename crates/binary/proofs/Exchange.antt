@@ -1,7 +1,7 @@
 -- Bits and files exchanged. Packed bits of a term are read back as the term, and bits that are read are the packed bits of what is read; the
 -- file of a term is what import writes, and an accepted file is the file of its term. So export and import undo each other.
 -- Assumes nothing.
-use Prim.Native.Nat.{ℕ}
+use Prim.Native.Nat.{ℕ, _≤_}
 use mathlib.Core.Path.{_≡_, refl, sym, ap, _∙_}
 use mathlib.Core.Bool.{Bool, true, false, cond}
 use mathlib.Core.List.{List, []}
@@ -46,29 +46,36 @@ packs-imported {f} {t} p =
     rw (le-leb f maxFree (p .free), p .packed, pack-bits (bits 0 t), reading-whole f t (spare (bits 0 t)) (p .closed) (p .names) (p .nodes))
     (rw (spare-padding (bits 0 t)))
 
--- a reading that gives a file has read a term
-fileFrom-read : (f : ℕ) (o : Reading) (r : List ℕ) → fileFrom f o ≡ bytes r
-    → (t : Term) × (rest : List Bool) × (o ≡ read t rest) × (padding rest ≡ true) × (r ≡ fileOf f (canonical f t))
-fileFrom-read f (unread k) r e = absurd (number-bytes e)
-fileFrom-read f (read t rest) r e =
-    let test = test-passed (padding rest) _ 15 r e in
-    (t, rest, refl, test .0, bytes-injective (sym (test .1)))
+-- a reading that gives the file r: a term was read, with padding behind it
+record Gives (f : ℕ) (o : Reading) (r : List ℕ) : Type 0 where
+  term : Term
+  rest : List Bool
+  is-read : o ≡ read term rest
+  padded : padding rest ≡ true
+  file : r ≡ fileOf f (canonical f term)
+
+fileFrom-gives : (f : ℕ) (o : Reading) (r : List ℕ) → fileFrom f o ≡ bytes r → Gives f o r
+fileFrom-gives f (unread k) r e = absurd (number-bytes e)
+fileFrom-gives f (read t bs) r e =
+    let test = test-passed (padding bs) _ 15 r e in
+    record { term = t; rest = bs; is-read = refl; padded = test .0; file = bytes-injective (sym (test .1)) }
+
+gives-packs : {f : ℕ} {r : List ℕ} (s : List ℕ) → Bytes s → f ≤ maxFree → (g : Gives f (reading f nothing whole 0 (bitsIn s)) r) → Packs f (g .term) s
+gives-packs {f} s b h g =
+    let is = reading-is f (g .term) (g .rest) (bitsIn s) (g .is-read) in
+    record {
+      packed = sym (pack-unique s (bits 0 (g .term)) (g .rest) b (is .spelled) (g .padded));
+      closed = is .closed;
+      names = is .names;
+      nodes = is .nodes;
+      free = h;
+    }
 
 imported-packs : (f : ℕ) (s r : List ℕ) → Bytes s → imported f s ≡ bytes r → (t : Term) × Packs f t s × (r ≡ fileOf f (canonical f t))
 imported-packs f s r b e =
     let test = test-passed (leb f maxFree) _ 2 r e in
-    let file = fileFrom-read f (reading f nothing whole 0 (bitsIn s)) r (test .1) in
-    let is = reading-is f (file .0) (file .1) (bitsIn s) (file .2) in (
-      file .0,
-      record {
-        packed = sym (pack-unique s (bits 0 (file .0)) (file .1) b (is .spelled) (file .3));
-        closed = is .closed;
-        names = is .names;
-        nodes = is .nodes;
-        free = leb-true f maxFree (test .0);
-      },
-      file .4,
-    )
+    let g = fileFrom-gives f (reading f nothing whole 0 (bitsIn s)) r (test .1) in
+    (g .term, gives-packs s b (leb-true f maxFree (test .0)) g, g .file)
 
 -- Export
 
@@ -82,6 +89,7 @@ exported-stands s r b e = go (refusal s) refl e
     go none h g = record { bytes = b; accepts = h; names = refl; term = refl }
     go (some k) h g = absurd (number-bytes g)
 
+-- a file has a node for each of its term's
 stands-size : {f : ℕ} {t : Term} {s : List ℕ} → Stands f t s → nodeCount s ≡ size t
 stands-size {f} {t} p =
     ap nodeCount (sym (stands-canonical p)) ∙ nodeCount-fileOf f (canonical f t) ∙ length-write (naming f [] t) ∙ naming-size t f []
@@ -109,7 +117,7 @@ packs-back : {f : ℕ} {t : Term} {s : List ℕ} → Packs f t s → exported (f
 packs-back p = stands-exported (packs-stands p) ∙ ap bytes (sym (p .packed))
 
 stands-same-bits : {f : ℕ} {t u : Term} {s r : List ℕ} → Stands f t s → Stands f u r → (exported s ≡ exported r) ↔ (t ≡ u)
-stands-same-bits {f} {t} {u} {s} {r} p q = (
+stands-same-bits {f} {t} {u} p q = (
   λ e.
       let packed : pack (bits 0 t) ≡ pack (bits 0 u) = bytes-injective (sym (stands-exported p) ∙ e ∙ stands-exported q) in
       stands-unique p q .1 (bytes-injective (sym (stands-back p) ∙ ap (imported f) packed ∙ stands-back q)),

@@ -3,3 +3,4 @@ pub mod ReadBack
 pub mod Written
 pub mod Exchange
 pub mod Examples
+pub mod Limits

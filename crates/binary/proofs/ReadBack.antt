@@ -18,16 +18,17 @@ use Rattle.binary.specs.Reading.{Place, whole, body, left, right, depth,
 -- A variable
 
 -- what the last bit of a variable with the index k leads to
-abbrev at-index : ℕ → Place → ℕ → List Bool → ℕ → Reading
+abbrev pub at-index : ℕ → Place → ℕ → List Bool → ℕ → Reading
 at-index f p n bs k =
     within (ltb n maxNodes && ltb k (depth p + f))
     (onward (ended p (variable (depth p) k)) bs (λ q. reading f nothing q (suc n) bs))
 
+-- behind j + 1 ones
 reading-ones : (f : ℕ) (p : Place) (n : ℕ) (bs : List Bool) (j k : ℕ) → reading f (ones j) p n (index k ++ bs) ≡ at-index f p n bs (suc (j + k))
 reading-ones f p n bs j zero = ap (at-index f p n bs) (omega arith)
 reading-ones f p n bs j (suc k) = reading-ones f p n bs (suc j) k ∙ ap (at-index f p n bs) (omega arith)
 
-reading-index : (f : ℕ) (p : Place) (n : ℕ) (bs : List Bool) (k : ℕ) → reading f nothing p n (index k ++ bs) ≡ at-index f p n bs k
+pub reading-index : (f : ℕ) (p : Place) (n : ℕ) (bs : List Bool) (k : ℕ) → reading f nothing p n (index k ++ bs) ≡ at-index f p n bs k
 reading-index f p n bs zero = refl
 reading-index f p n bs (suc k) = reading-ones f p n bs 0 k ∙ ap (at-index f p n bs) (omega arith)
 
@@ -44,6 +45,7 @@ at-index-read f p n bs k t h g e = rw (add-one n, lt-ltb n maxNodes h, lt-ltb k 
 
 -- A term
 
+-- the bits of a term at a place lead on as the term does
 pub reading-bits : (f : ℕ) (t : Term) (p : Place) (n : ℕ) (bs : List Bool) → LooseBelow (depth p) t → NamesBelow f t → n + size t ≤ maxNodes
     → reading f nothing p n (bits (depth p) t ++ bs) ≡ onward (ended p t) bs (λ q. reading f nothing q (n + size t) bs)
 reading-bits f (free x) p n bs l g h =

@@ -40,18 +40,18 @@ Fits f (body p) = Fits f p
 Fits f (left p) = Fits f p
 Fits f (right t p) = LooseBelow (depth p) t × NamesBelow f t × Fits f p
 
--- what is reached after n nodes with the bits bs: the whole, or a place
-abbrev Reached : ℕ → List Bool → ℕ → Next → Type 0
-Reached f bs n (done t) = (bits 0 t ≡ bs) × (size t ≡ n) × Whole t × NamesBelow f t
-Reached f bs n (part p) = (before p ≡ bs) × (nodesBefore p ≡ n) × Fits f p
+-- what is reached after n nodes with the bits bs: the end of the whole, or a place
+data Reached (f : ℕ) (bs : List Bool) (n : ℕ) : Next → Type 0 where
+  at-end : {t : Term} → bits 0 t ≡ bs → size t ≡ n → Whole t → NamesBelow f t → Reached f bs n (done t)
+  at-place : {p : Place} → before p ≡ bs → nodesBefore p ≡ n → Fits f p → Reached f bs n (part p)
 
 ended-reached : (f : ℕ) (p : Place) (t : Term) → Fits f p → LooseBelow (depth p) t → NamesBelow f t
     → Reached f (before p ++ bits (depth p) t) (nodesBefore p + size t) (ended p t)
-ended-reached f whole t fits l g = (refl, sym (zero-add (size t)), l, g)
+ended-reached f whole t fits l g = at-end refl (sym (zero-add (size t))) l g
 ended-reached f (body p) t fits l g =
     subst₂ (λ bs n. Reached f bs n (ended p (lam t))) (sym (append-assoc (before p) _ _)) (omega arith)
     (ended-reached f p (lam t) fits l g)
-ended-reached f (left p) t fits l g = (sym (append-assoc (before p) _ _), refl, (l, g, fits))
+ended-reached f (left p) t fits l g = at-place {p = right t p} (sym (append-assoc (before p) _ _)) refl (l, g, fits)
 ended-reached f (right t p) u fits l g =
     subst₂ (λ bs n. Reached f bs n (ended p (app t u))) (sym (append-assoc (before p) _ _)) (omega arith)
     (ended-reached f p (app t u) (fits .2) (fits .0, l) (fits .1, g))
@@ -98,6 +98,7 @@ pub record Spells (f : ℕ) (t : Term) (rest bs : List Bool) : Type 0 where
   pub names : NamesBelow f t
   pub nodes : size t ≤ maxNodes
 
+-- what a reading that comes to a term has passed
 unread-read : {k : ℕ} {t : Term} {rest : List Bool} → unread k ≡ read t rest → ⊥
 unread-read e = let z : _≡_ {A = ℕ} 0 1 = cc in omega arith
 
@@ -105,18 +106,19 @@ within-read : (q : Bool) (r : Reading) (t : Term) (rest : List Bool) → within 
 within-read true r t rest e = (refl, e)
 within-read false r t rest e = absurd (unread-read e)
 
-onward-spells : (f : ℕ) (t : Term) (rest bs l : List Bool) (n : ℕ) (o : Next) → Reached f l n o → n ≤ maxNodes
+-- where what is read from a place on spells, so does the whole
+onward-spells : {f n : ℕ} {l : List Bool} {o : Next} (t : Term) (rest bs : List Bool) → Reached f l n o → n ≤ maxNodes
     → onward o bs (λ q. reading f nothing q n bs) ≡ read t rest
     → ((q : Place) → Fits f q → reading f nothing q (nodesBefore q) bs ≡ read t rest → Spells f t rest (before q ++ bs))
     → Spells f t rest (l ++ bs)
-onward-spells f t rest bs l n (done u) r h e later =
+onward-spells {f} {l = l} t rest bs (at-end {t = u} e c w g) h r later =
     let term : u ≡ t = cc in
     let behind : bs ≡ rest = cc in
     subst₂ (λ v k. Spells f v k (l ++ bs)) term behind
-    (record { spelled = ap (λ k. k ++ bs) (sym (r .0)); closed = r .2; names = r .3; nodes = omega arith })
-onward-spells f t rest bs l n (part q) r h e later = rw (r .0) at (later q (r .2) (rw (r .1) e))
+    (record { spelled = ap (λ k. k ++ bs) (sym e); closed = w; names = g; nodes = omega arith })
+onward-spells t rest bs (at-place {p = q} e c fits) h r later = rw e at (later q fits (rw c r))
 
-pub reading-spells : (f : ℕ) (t : Term) (rest bs : List Bool) (b : Begun) (p : Place) → Fits f p → reading f b p (nodesBefore p) bs ≡ read t rest
+reading-spells : (f : ℕ) (t : Term) (rest bs : List Bool) (b : Begun) (p : Place) → Fits f p → reading f b p (nodesBefore p) bs ≡ read t rest
     → Spells f t rest (before p ++ (begun b ++ bs))
 reading-spells f t rest [] b p fits e = absurd (unread-read e)
 reading-spells f t rest (false ∷ bs) nothing p fits e = reading-spells f t rest bs a-zero p fits e
@@ -131,8 +133,8 @@ reading-spells f t rest (false ∷ bs) (ones k) p fits e =
     let both = and-eq-true-iff (ltb (nodesBefore p) maxNodes) (ltb k (depth p + f)) .0 (test .0) in
     let var = variable-is f (depth p) k (ltb-true _ _ (both .1)) in
     rw (ones-index k bs, ← append-assoc (before p) (index k) bs)
-    (onward-spells f t rest bs (before p ++ index k) (suc (nodesBefore p)) (ended p (variable (depth p) k)) (variable-reached p fits var)
-    (ltb-true _ _ (both .0)) (test .1) (λ q fit r. reading-spells f t rest bs nothing q fit r))
+    (onward-spells t rest bs (variable-reached p fits var) (ltb-true _ _ (both .0)) (test .1)
+    (λ q fit r. reading-spells f t rest bs nothing q fit r))
 
 pub reading-is : (f : ℕ) (t : Term) (rest bs : List Bool) → reading f nothing whole 0 bs ≡ read t rest → Spells f t rest bs
 reading-is f t rest bs e = reading-spells f t rest bs nothing whole tt e
