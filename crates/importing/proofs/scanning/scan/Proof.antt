@@ -72,7 +72,7 @@ put-abstraction-requires c κs =
     let l = c .before .before .before .before .before .before .before .before .before .loop in
     let a = c .before .before .before .before .before .before .before .before .before .before .before .before .before .before .before .args in
     let w = (subst (NodeAt nothing 2 _ _) (c .before .before .before .before .before .before .next .given .1) (c .before .before .before .before .before .before .before .before .read-node .ensures)) in
-    turn-ready (a .f) (a .bits .now) (l .c) (l .spot) (l .tags) (l .args) (l .names) (l .apps) (c .before .before .before .before .before .before .before .before .before .before .before .before .before .before .before .pre .0) (l .inv .0) _ _ _ _ (c .before .before .before .if1 .left) (w .shorter .1) (subst (Roomy _) (sym (l .inv .1 .0)) (c .before .before .before .before .before .before .before .before .before .before .before .before .before .before .before .pre .1 .0)) (subst (Roomy _) (sym (l .inv .1 .1)) (c .before .before .before .before .before .before .before .before .before .before .before .before .before .before .before .pre .1 .1 .0)) (subst (Roomy _) (sym (l .inv .1 .2)) (c .before .before .before .before .before .before .before .before .before .before .before .before .before .before .before .pre .1 .1 .1 .0))
+    turn-ready (a .f) (a .bits .now) (l .c) (l .spot) (l .tags) (l .args) (l .names) (l .apps) (c .before .before .before .before .before .before .before .before .before .before .before .before .before .before .before .pre .0) (l .inv .0) (c .before .before .before .before .before .before .next .given .0 .0) _ _ _ (c .before .before .before .if1 .left) (w .shorter .1) (subst (Roomy _) (sym (l .inv .1 .0)) (c .before .before .before .before .before .before .before .before .before .before .before .before .before .before .before .pre .1 .0)) (subst (Roomy _) (sym (l .inv .1 .1)) (c .before .before .before .before .before .before .before .before .before .before .before .before .before .before .before .pre .1 .1 .0)) (subst (Roomy _) (sym (l .inv .1 .2)) (c .before .before .before .before .before .before .before .before .before .before .before .before .before .before .before .pre .1 .1 .1 .0))
 
 loop-less : tie.Need-loop-less Inv-loop μ-loop
 loop-less c =
@@ -117,7 +117,7 @@ put-application-requires c κs =
     let l = c .before .before .before .before .before .before .before .before .before .loop in
     let a = c .before .before .before .before .before .before .before .before .before .before .before .before .before .before .before .args in
     let w = (subst (NodeAt nothing 2 _ _) (c .before .before .before .before .before .before .next2 .given .1) (c .before .before .before .before .before .before .before .before .read-node .ensures)) in
-    turn-ready (a .f) (a .bits .now) (l .c) (l .spot) (l .tags) (l .args) (l .names) (l .apps) (c .before .before .before .before .before .before .before .before .before .before .before .before .before .before .before .pre .0) (l .inv .0) _ _ _ _ (c .before .before .before .if2 .left) (w .shorter .1) (subst (Roomy _) (sym (l .inv .1 .0)) (c .before .before .before .before .before .before .before .before .before .before .before .before .before .before .before .pre .1 .0)) (subst (Roomy _) (sym (l .inv .1 .1)) (c .before .before .before .before .before .before .before .before .before .before .before .before .before .before .before .pre .1 .1 .0)) (subst (Roomy _) (sym (l .inv .1 .3)) (c .before .before .before .before .before .before .before .before .before .before .before .before .before .before .before .pre .1 .1 .1 .1))
+    turn-ready (a .f) (a .bits .now) (l .c) (l .spot) (l .tags) (l .args) (l .names) (l .apps) (c .before .before .before .before .before .before .before .before .before .before .before .before .before .before .before .pre .0) (l .inv .0) (c .before .before .before .before .before .before .next2 .given .0 .0) _ _ _ (c .before .before .before .if2 .left) (w .shorter .1) (subst (Roomy _) (sym (l .inv .1 .0)) (c .before .before .before .before .before .before .before .before .before .before .before .before .before .before .before .pre .1 .0)) (subst (Roomy _) (sym (l .inv .1 .1)) (c .before .before .before .before .before .before .before .before .before .before .before .before .before .before .before .pre .1 .1 .0)) (subst (Roomy _) (sym (l .inv .1 .3)) (c .before .before .before .before .before .before .before .before .before .before .before .before .before .before .before .pre .1 .1 .1 .1))
 
 loop-less-2 : tie.Need-loop-less-2 Inv-loop μ-loop
 loop-less-2 c =
@@ -162,7 +162,7 @@ add-if4 c =
     let l = c .before .before .before .before .before .before .before .loop in
     let a = c .before .before .before .before .before .before .before .before .before .before .before .before .before .args in
     let w = (subst (NodeAt nothing 2 _ _) (c .before .before .before .before .k .given .1) (c .before .before .before .before .before .before .read-node .ensures)) in
-    let ready = turn-ready (a .f) (a .bits .now) (l .c) (l .spot) (l .tags) (l .args) (l .names) (l .apps) (c .before .before .before .before .before .before .before .before .before .before .before .before .before .pre .0) (l .inv .0) _ _ _ _ (c .before .if3 .left) (w .shorter .1) (subst (Roomy _) (sym (l .inv .1 .0)) (c .before .before .before .before .before .before .before .before .before .before .before .before .before .pre .1 .0)) (subst (Roomy _) (sym (l .inv .1 .1)) (c .before .before .before .before .before .before .before .before .before .before .before .before .before .pre .1 .1 .0)) (subst (Roomy _) (sym (l .inv .1 .2)) (c .before .before .before .before .before .before .before .before .before .before .before .before .before .pre .1 .1 .1 .0)) in
+    let ready = turn-ready (a .f) (a .bits .now) (l .c) (l .spot) (l .tags) (l .args) (l .names) (l .apps) (c .before .before .before .before .before .before .before .before .before .before .before .before .before .pre .0) (l .inv .0) (c .before .before .before .before .k .given .0 .1 .0) _ _ _ (c .before .if3 .left) (w .shorter .1) (subst (Roomy _) (sym (l .inv .1 .0)) (c .before .before .before .before .before .before .before .before .before .before .before .before .before .pre .1 .0)) (subst (Roomy _) (sym (l .inv .1 .1)) (c .before .before .before .before .before .before .before .before .before .before .before .before .before .pre .1 .1 .0)) (subst (Roomy _) (sym (l .inv .1 .2)) (c .before .before .before .before .before .before .before .before .before .before .before .before .before .pre .1 .1 .1 .0)) in
     omega (arith, ready .few-deep, ready .few-nodes, c .before .before .before .before .before .before .before .before .before .before .before .before .before .pre .0)
 
 same-length-17 : tie.Need-same-length-17 Inv-loop μ-loop
@@ -188,7 +188,7 @@ put-variable-requires c κs =
     let l = c .before .before .before .before .before .before .before .before .before .before .before .loop in
     let a = c .before .before .before .before .before .before .before .before .before .before .before .before .before .before .before .before .before .args in
     let w = (subst (NodeAt nothing 2 _ _) (c .before .before .before .before .before .before .before .before .k .given .1) (c .before .before .before .before .before .before .before .before .before .before .read-node .ensures)) in
-    (turn-ready (a .f) (a .bits .now) (l .c) (l .spot) (l .tags) (l .args) (l .names) (l .apps) (c .before .before .before .before .before .before .before .before .before .before .before .before .before .before .before .before .before .pre .0) (l .inv .0) _ _ _ _ (c .before .before .before .before .before .if3 .left) (w .shorter .1) (subst (Roomy _) (sym (l .inv .1 .0)) (c .before .before .before .before .before .before .before .before .before .before .before .before .before .before .before .before .before .pre .1 .0)) (subst (Roomy _) (sym (l .inv .1 .1)) (c .before .before .before .before .before .before .before .before .before .before .before .before .before .before .before .before .before .pre .1 .1 .0)) (subst (Roomy _) (sym (l .inv .1 .2)) (c .before .before .before .before .before .before .before .before .before .before .before .before .before .before .before .before .before .pre .1 .1 .1 .0)), omega (arith, c .before .before .before .before .before .before .before .before .before .before .before .before .before .before .before .before .before .pre .0, c .before .before .before .if4 .left))
+    (turn-ready (a .f) (a .bits .now) (l .c) (l .spot) (l .tags) (l .args) (l .names) (l .apps) (c .before .before .before .before .before .before .before .before .before .before .before .before .before .before .before .before .before .pre .0) (l .inv .0) (c .before .before .before .before .before .before .before .before .k .given .0 .1 .0) _ _ _ (c .before .before .before .before .before .if3 .left) (w .shorter .1) (subst (Roomy _) (sym (l .inv .1 .0)) (c .before .before .before .before .before .before .before .before .before .before .before .before .before .before .before .before .before .pre .1 .0)) (subst (Roomy _) (sym (l .inv .1 .1)) (c .before .before .before .before .before .before .before .before .before .before .before .before .before .before .before .before .before .pre .1 .1 .0)) (subst (Roomy _) (sym (l .inv .1 .2)) (c .before .before .before .before .before .before .before .before .before .before .before .before .before .before .before .before .before .pre .1 .1 .1 .0)), omega (arith, c .before .before .before .before .before .before .before .before .before .before .before .before .before .before .before .before .before .pre .0, c .before .before .before .if4 .left))
 
 same-length-21 : tie.Need-same-length-21 Inv-loop μ-loop
 same-length-21 c = c .before .before .before .before .before .before .put-variable .kept .0 ∙ c .before .before .before .before .before .before .before .before .before .before .before .before .before .before .before .before .before .before .loop .inv .1 .0
@@ -216,9 +216,9 @@ close-left-requires c κs =
     let a = c .before .before .before .before .before .before .before .before .before .before .before .before .before .before .before .before .before .before .before .before .before .before .before .before .before .before .args in
     let w = (subst (NodeAt nothing 2 _ _) (c .before .before .before .before .before .before .before .before .before .before .before .before .before .before .before .before .before .k .given .1) (c .before .before .before .before .before .before .before .before .before .before .before .before .before .before .before .before .before .before .before .read-node .ensures)) in
     let v = c .before .before .before .before .before .before .before .before .put-variable .ensures (a .f) (l .inv .0 .place) (l .apps) (l .inv .0 .holds) in
-    let ready = turn-ready (a .f) (a .bits .now) (l .c) (l .spot) (l .tags) (l .args) (l .names) (l .apps) (c .before .before .before .before .before .before .before .before .before .before .before .before .before .before .before .before .before .before .before .before .before .before .before .before .before .before .pre .0) (l .inv .0) _ _ _ _ (c .before .before .before .before .before .before .before .before .before .before .before .before .before .before .if3 .left) (w .shorter .1) (subst (Roomy _) (sym (l .inv .1 .0)) (c .before .before .before .before .before .before .before .before .before .before .before .before .before .before .before .before .before .before .before .before .before .before .before .before .before .before .pre .1 .0)) (subst (Roomy _) (sym (l .inv .1 .1)) (c .before .before .before .before .before .before .before .before .before .before .before .before .before .before .before .before .before .before .before .before .before .before .before .before .before .before .pre .1 .1 .0)) (subst (Roomy _) (sym (l .inv .1 .3)) (c .before .before .before .before .before .before .before .before .before .before .before .before .before .before .before .before .before .before .before .before .before .before .before .before .before .before .pre .1 .1 .1 .1)) in
+    let ready = turn-ready (a .f) (a .bits .now) (l .c) (l .spot) (l .tags) (l .args) (l .names) (l .apps) (c .before .before .before .before .before .before .before .before .before .before .before .before .before .before .before .before .before .before .before .before .before .before .before .before .before .before .pre .0) (l .inv .0) (c .before .before .before .before .before .before .before .before .before .before .before .before .before .before .before .before .before .k .given .0 .1 .0) _ _ _ (c .before .before .before .before .before .before .before .before .before .before .before .before .before .before .if3 .left) (w .shorter .1) (subst (Roomy _) (sym (l .inv .1 .0)) (c .before .before .before .before .before .before .before .before .before .before .before .before .before .before .before .before .before .before .before .before .before .before .before .before .before .before .pre .1 .0)) (subst (Roomy _) (sym (l .inv .1 .1)) (c .before .before .before .before .before .before .before .before .before .before .before .before .before .before .before .before .before .before .before .before .before .before .before .before .before .before .pre .1 .1 .0)) (subst (Roomy _) (sym (l .inv .1 .3)) (c .before .before .before .before .before .before .before .before .before .before .before .before .before .before .before .before .before .before .before .before .before .before .before .before .before .before .pre .1 .1 .1 .1)) in
     let o = variable-part (a .f) (a .bits .now) (l .c) (l .spot) (l .tags) (l .args) (l .names) (l .apps) (c .before .before .before .before .before .before .before .before .before .before .before .before .before .before .before .before .before .before .before .before .before .before .before .before .before .before .pre .0) (l .inv .0) (c .before .before .before .before .before .before .before .before .before .before .before .before .before .before .if3 .left) _ _ (c .before .before .before .before .before .before .before .before .before .before .before .before .if4 .left) w _ _ _ v (c .before .before .if5 .left) in
-    part-closable (a .f) (a .bits .now) (l .c) (l .spot) (l .tags) (l .args) (l .names) (l .apps) (c .before .before .before .before .before .before .before .before .before .before .before .before .before .before .before .before .before .before .before .before .before .before .before .before .before .before .pre .0) (l .inv .0) (c .before .before .before .before .before .before .before .before .before .before .before .before .before .before .if3 .left) _ _ (c .before .before .before .before .before .before .before .before .before .before .before .before .if4 .left) w _ _ _ v o (subst (λ n. _ < n) (sym (c .before .before .before .before .before .before .before .before .put-variable .kept .1 .0)) (ready .argument-fits)) ?
+    part-closable (a .f) (a .bits .now) (l .c) (l .spot) (l .tags) (l .args) (l .names) (l .apps) (c .before .before .before .before .before .before .before .before .before .before .before .before .before .before .before .before .before .before .before .before .before .before .before .before .before .before .pre .0) (l .inv .0) (c .before .before .before .before .before .before .before .before .before .before .before .before .before .before .if3 .left) _ _ (c .before .before .before .before .before .before .before .before .before .before .before .before .if4 .left) w _ _ _ v o (omega (arith, ready .argument-fits, c .before .before .before .before .before .before .before .before .put-variable .kept .1 .0)) (ready .other-fits)
 
 loop-less-3 : tie.Need-loop-less-3 Inv-loop μ-loop
 loop-less-3 c =
