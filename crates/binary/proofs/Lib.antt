@@ -1,4 +1,5 @@
 pub mod Packing
+pub mod Answers
 pub mod ReadBack
 pub mod Written
 pub mod Exchange

@@ -1,6 +1,7 @@
 -- What `import` and `export` answer, and what they leave in the output array.
 -- Letters: s are the bytes of bits or of a file, f is the count of free names, l what the output array holds before.
 use Prim.Native.Nat.{ℕ}
+use mathlib.Core.Path.{_≡_}
 use mathlib.Core.Bool.{Bool, true, false, cond, not, _&&_}
 use mathlib.Core.List.{List, [], _∷_}
 use mathlib.Core.Option.{Option, none, some}
@@ -73,3 +74,8 @@ numberOf Range = 16
 abbrev pub told : Converted → Answer
 told (Written n) = written n
 told (Refused r) = refused (numberOf r)
+
+-- what a call of `import` or `export` with this result promises: its answer, and what the output then holds
+pub record Converts (w : Result) (r : Converted) (l l′ : List ℕ) : Type 0 where
+  pub answer-is : told r ≡ answer w (length l)
+  pub output-is : l′ ≡ output w l

@@ -31,11 +31,13 @@ module _ (s : List ℕ) (c : Cursor) (some-left : c .left ≡ 0 → ⊥) where
       ap (λ k. lowBits k (c .byte) ++ bitsIn (drop (c .at) s)) e
       ∙ sym (taken-pick s (record { at = c .at; byte = c .byte; left = c .left - 1 }) (eqb (c .byte / 2 ^ (c .left - 1) % 2) 1))
 
-  pub at-hand : c .left ≤ 8 → (r : Bit) → r ≡ bitOf (c .at) (c .byte) (c .left - 1) → (ahead s c ≡ taken s r) × Bitwise c r
+  pub at-hand : c .left < 8 → (r : Bit) → r ≡ bitOf (c .at) (c .byte) (c .left - 1) → (ahead s c ≡ taken s r) × Bitwise c r
   at-hand few r e =
-      subst (λ b. (ahead s c ≡ taken s b) × Bitwise c b) (sym e)
-      (taken-at-hand, bitwise-pick c (record { at = c .at; byte = c .byte; left = c .left - 1 }) (eqb (c .byte / 2 ^ (c .left - 1) % 2) 1)
-      (record { sound = omega arith; forth = omega arith; far = omega arith }))
+      subst (λ b. (ahead s c ≡ taken s b) × Bitwise c b) (sym e) (
+        taken-at-hand,
+        bitwise-pick c (record { at = c .at; byte = c .byte; left = c .left - 1 }) (eqb (c .byte / 2 ^ (c .left - 1) % 2) 1)
+            (record { sound = omega arith; forth = omega arith; far = omega arith }),
+      )
 
 -- none is left
 module _ (s : List ℕ) (c : Cursor) (none-left : c .left ≡ 0) where
@@ -50,13 +52,14 @@ module _ (s : List ℕ) (c : Cursor) (none-left : c .left ≡ 0) where
       let d : Cursor = record { at = c .at + 1; byte = getD s (c .at) 0; left = 7 } in
       let q = eqb (getD s (c .at) 0 / 2 ^ 7 % 2) 1 in
       let later : suc (c .at) ≡ c .at + 1 = omega arith in
-      subst (λ b. (ahead s c ≡ taken s b) × Bitwise c b) (sym e)
-      (bytes-ahead ∙ ap bitsIn (drop-cons s (c .at) 0 h) ∙ ap (λ k. lowBits 8 (getD s (c .at) 0) ++ bitsIn (drop k s)) later ∙ sym (taken-pick s d q),
-      bitwise-pick c d q (record { sound = omega arith; forth = omega arith; far = omega arith }))
+      subst (λ b. (ahead s c ≡ taken s b) × Bitwise c b) (sym e) (
+        bytes-ahead ∙ ap bitsIn (drop-cons s (c .at) 0 h) ∙ ap (λ k. lowBits 8 (getD s (c .at) 0) ++ bitsIn (drop k s)) later ∙ sym (taken-pick s d q),
+        bitwise-pick c d q (record { sound = omega arith; forth = omega arith; far = omega arith }),
+      )
 
 -- Cursors behind each other
 
-pub behind-none : (c : Cursor) → c .left ≤ 8 → Behind c 0 c
+pub behind-none : (c : Cursor) → c .left < 8 → Behind c 0 c
 behind-none c h = record { sound = h; forth = omega arith; far = omega arith }
 
 pub behind-then : {a c d : Cursor} {j k : ℕ} (m : ℕ) → m ≡ j + k → Behind a j c → Behind c k d → Behind a m d

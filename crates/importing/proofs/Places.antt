@@ -82,7 +82,7 @@ module _ (f : ℕ) (p : Place) (st : Spot) (ts ms xs ys : List ℕ) (h : Before 
       let q = ltb k (st .depth) in
       let x : Node = record { tag = 0; argument = cond q (getD (around f p) k 0) (k - st .depth) } in
       let e : nodesTo f p ++ (x ∷ []) ≡ nodesTo f p ++ nodesOf f p (variable (st .depth) k)
-            = ap (λ l. nodesTo f p ++ l) (sym (nodes-pick q k (k - st .depth))) in
+      = ap (λ l. nodesTo f p ++ l) (sym (nodes-pick q k (k - st .depth))) in
       record {
         count = omega (arith, h .count, length-append (nodesTo f p) (x ∷ []), ap length e);
         tags-are = laid-more (λ n. n .tag) ts (nodesTo f p) x (st .nodes) 0 (r .tag-fits) (h .tags-are) refl ∙ ap (map (λ n. n .tag)) e;

@@ -172,9 +172,14 @@ module _ (f : ℕ) (s : List ℕ) (c : Cursor) (st : Spot) (ts ms xs ys : List �
         one-more : r .nodes ≡ suc (st .nodes)
         one-more =
             let v = variable (st .depth) k in
-            omega
-            (arith, h .count, length-append (nodesTo f (t .place)) (nodesOf f (t .place) v), nodes-size f (t .place) v,
-            size-pick (ltb k (st .depth)) (k - st .depth), t .holds .count)
+            omega (
+              arith,
+              h .count,
+              length-append (nodesTo f (t .place)) (nodesOf f (t .place) v),
+              nodes-size f (t .place) v,
+              size-pick (ltb k (st .depth)) (k - st .depth),
+              t .holds .count,
+            )
 
         -- no application is open: it ends the term
         last-term : (x : Next) → ended (t .place) (variable (depth (t .place)) k) ≡ x → Ends f (t .place) (variable (depth (t .place)) k) x

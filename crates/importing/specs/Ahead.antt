@@ -1,6 +1,6 @@
 -- What is still to be read behind a cursor, and what the functions that read from there are held to.
 -- Letters: s are bytes, c is a cursor, f the count of free names, p a place, n the nodes read before.
-use Prim.Native.Nat.{ℕ, suc, _+_, _*_, _/_, _%_, _^_, _≤_}
+use Prim.Native.Nat.{ℕ, suc, _+_, _*_, _/_, _%_, _^_, _≤_, _<_}
 use mathlib.Core.Path.{_≡_}
 use mathlib.Core.Bool.{Bool, true, false, cond}
 use mathlib.Core.List.{List, [], _∷_, _++_}
@@ -21,9 +21,9 @@ use Rattle.importing.specs.declared.node.Node.the-variants.{Cut, Abstrac
 abbrev pub ahead : List ℕ → Cursor → List Bool
 ahead s c = lowBits (c .left) (c .byte) ++ bitsIn (drop (c .at) s)
 
--- a byte has no more than eight bits
+-- the byte at hand is begun, so that fewer than eight bits are left of it
 abbrev pub Sound : Cursor → Type 0
-Sound c = c .left ≤ 8
+Sound c = c .left < 8
 
 -- the bits ahead, where the first of them is known
 abbrev pub taken : List ℕ → Bit → List Bool

@@ -1,3 +1,4 @@
 pub mod Ahead
 pub mod Holding
 pub mod Scanning
+pub mod Promise

@@ -1,7 +1,7 @@
 // One node of a term: 00, 01, or ones up to a zero.
-use crate::cursor::next_bit;
 use crate::cursor::Bit;
 use crate::cursor::Cursor;
+use crate::cursor::next_bit;
 ghost use Rattle.binary.specs.Reading.{nothing, ones};
 ghost use Rattle.importing.specs.Ahead.{Sound, Run, NodeAt};
 
@@ -49,7 +49,10 @@ fn read_index(bits: &[u8], c: Cursor) -> Node
     if bytes > 8192 {
         return Node::Variable(65535, next);
     }
-    Node::Variable(8 * bytes + (c.left as usize) - (next.left as usize) - 1, next)
+    Node::Variable(
+        8 * bytes + (c.left as usize) - (next.left as usize) - 1,
+        next,
+    )
 }
 
 // The node at a cursor.

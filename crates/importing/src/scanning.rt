@@ -1,12 +1,12 @@
 // The one pass over the bits: it checks them, and puts the nodes of the term into arrays.
 use crate::cursor::Cursor;
-use crate::node::read_node;
 use crate::node::Node;
+use crate::node::read_node;
+use crate::placing::Spot;
 use crate::placing::close_left;
 use crate::placing::put_abstraction;
 use crate::placing::put_application;
 use crate::placing::put_variable;
-use crate::placing::Spot;
 ghost use Prim.Native.Nat.{_≤_};
 ghost use lib.ListN.{length};
 ghost use Rattle.termfile.specs.File.{maxFree};
@@ -24,7 +24,14 @@ const MAX_NODES: usize = 16384;
 
 // Scans the bits. At each turn the nodes up to a place have been put, and what is left to be read
 // there is ahead of the cursor.
-pub fn scan(bits: &[u8], f: usize, tags: &mut [u8], args: &mut [u16], names: &mut [u16], apps: &mut [u16]) -> Scanned
+pub fn scan(
+    bits: &[u8],
+    f: usize,
+    tags: &mut [u8],
+    args: &mut [u16],
+    names: &mut [u16],
+    apps: &mut [u16],
+) -> Scanned
     requires { ⌜ f ≤ maxFree ⌝ }
     requires { ⌜ Roomy (length (now bits)) (length (now tags)) ⌝ }
     requires { ⌜ Roomy (length (now bits)) (length (now args)) ⌝ }

@@ -5,16 +5,11 @@ use Prim.Native.Nat.{ℕ, suc, _+_}
 use mathlib.Core.Path.{_≡_, refl, sym, ap, _∙_, subst, subst⁻¹}
 use mathlib.Core.List.{List, [], _∷_, _++_}
 use native.Mathlib.Omega.{arith}
-use lib.ListN.{length, set, drop, length-append}
-use lib.Seq.{sets, length-sets, sets-eq, set-comm}
+use lib.ListN.{length, set, length-append}
+use lib.Seq.{sets, length-sets, set-comm}
 use Rattle.termfile.specs.Output.{overlay}
+use Rattle.termfile.proofs.Sets.{sets-append, sets-front}
 use Rattle.rendering.specs.Putting.{Room, Put}
-
--- stores of one text and then of another behind it
-pub sets-append : (ts us : List ℕ) (at : ℕ) (l : List ℕ) → sets (sets l at ts) (at + length ts) us ≡ sets l at (ts ++ us)
-sets-append [] us at l = ap (λ k. sets l k us) (omega arith)
-sets-append (t ∷ ts) us at l =
-    ap (λ k. sets (sets (set l at t) (suc at) ts) k us) (omega arith) ∙ sets-append ts us (suc at) (set l at t)
 
 -- the last byte of a text may be stored first
 pub sets-last : (ts : List ℕ) (t at : ℕ) (l : List ℕ) → sets (set l (at + length ts) t) at ts ≡ sets l at (ts ++ (t ∷ []))
@@ -63,6 +58,4 @@ put-as {at = at} {next = next} {l = l} {l′ = l′} e p = subst⁻¹ (λ ts. Pu
 
 -- a text that is put at the front is laid over the array
 pub put-front : {ts : List ℕ} {next : ℕ} {l l′ : List ℕ} → Room ts 0 l → Put ts 0 l next l′ → l′ ≡ overlay ts l
-put-front {ts} {next} {l} h p =
-    let e : 0 + length ts ≡ length ts = omega arith in
-    p .array-is ∙ sets-eq ts l 0 (h .fits) ∙ ap (λ k. ts ++ drop k l) e
+put-front {ts} {next} {l} h p = p .array-is ∙ sets-front ts l (omega (arith, h .fits))

@@ -38,7 +38,11 @@ pub words-wordsBytes : (ms : List ℕ) → words (wordsBytes ms) ≡ ms
 words-wordsBytes [] = refl
 words-wordsBytes (m ∷ ms) = ap₂ _∷_ (word-wordBytes m) (words-wordsBytes ms)
 
-length-wordsBytes : (ms : List ℕ) → length (wordsBytes ms) ≡ 2 * length ms
+pub wordsBytes-append : (ms ns : List ℕ) → wordsBytes (ms ++ ns) ≡ wordsBytes ms ++ wordsBytes ns
+wordsBytes-append [] ns = refl
+wordsBytes-append (m ∷ ms) ns = ap (λ l. m % 256 ∷ m / 256 ∷ l) (wordsBytes-append ms ns)
+
+pub length-wordsBytes : (ms : List ℕ) → length (wordsBytes ms) ≡ 2 * length ms
 length-wordsBytes [] = refl
 length-wordsBytes (m ∷ ms) = omega (arith, length-wordsBytes ms)
 

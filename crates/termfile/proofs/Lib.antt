@@ -1,6 +1,7 @@
 pub mod Reading
 pub mod Loose
 pub mod Naming
+pub mod Sets
 pub mod Bytes
 pub mod Refusals
 pub mod Acceptance
