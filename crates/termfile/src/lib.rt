@@ -21,7 +21,7 @@ ghost use mathlib.Core.Path.{_≡_};
 ghost use Prim.Native.Nat.{_≤_};
 ghost use lib.ListN.{length};
 ghost use Rattle.termfile.specs.Answer.{answer, told, number};
-ghost use Rattle.termfile.specs.File.{freeNames, counts};
+ghost use Rattle.termfile.specs.File.{word, freeNames, counts};
 ghost use Rattle.termfile.specs.Passes.{Framed, Tagged};
 use binders::in_order;
 use layout::word_at;
@@ -70,6 +70,14 @@ pub fn number(why: Refusal) -> u64
         Refusal::Binder => 6,
         Refusal::Variable => 7,
     }
+}
+
+// The 16-bit number of two bytes. Ruled out, for instance: the bytes in the other order, and the lower
+// byte alone (must-fail/word_swapped.edit, word_low_alone.edit).
+pub fn word(low: u8, high: u8) -> usize
+    ensures { λ r. ⌜ r ≡ word low high ⌝ }
+{
+    (low as usize) + 256 * (high as usize)
 }
 
 // The most free names, and the most nodes, that a term file has.

@@ -1,0 +1,2 @@
+// Export.
+mod measuring;
