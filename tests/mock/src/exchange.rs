@@ -67,11 +67,11 @@ fn bits(file: &[u8], mut put: impl FnMut(usize, bool)) -> usize {
     let mut level = vec![0; n]; // how many abstractions are around each binder, by the binders' order
     let mut due: Vec<usize> = Vec::new(); // the abstractions around right parts that are still to come
     let (mut m, mut binders) = (0, 0);
-    for k in 0..n {
-        if tags[k] > 0 {
+    for (k, &tag) in tags.iter().enumerate() {
+        if tag > 0 {
             next(false);
-            next(tags[k] == 2);
-            if tags[k] == 2 { due.push(m); } else { level[binders] = m; binders += 1; m += 1; }
+            next(tag == 2);
+            if tag == 2 { due.push(m); } else { level[binders] = m; binders += 1; m += 1; }
         } else {
             let x = arg(k);
             let index = if x < f { m + x } else { m - 1 - level[x - f] };
