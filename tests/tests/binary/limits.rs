@@ -14,10 +14,10 @@ fn variable(k: usize) -> Bits { let mut bits = vec![true; k + 1]; bits.push(fals
 fn abstractions(n: usize) -> Bits { vec![false; 2 * n] }
 const APPLICATION: [bool; 2] = [false, true];
 
-/// A shape, its name, and how many nodes it has for each turn, beside the last one.
+/// A shape's name, the nodes of one turn of it, and the bits of so many turns and a last variable.
 type Shape = (&'static str, usize, fn(usize) -> Bits);
 
-/// Shapes of so many turns and a last variable, all closed but for free name 0.
+/// No name in these is free but 0.
 const SHAPES: [Shape; 6] = [
     ("abstractions", 1, |turns| [abstractions(turns), variable(0)].concat()),
     ("the outermost of abstractions", 1, |turns| [abstractions(turns), variable(turns.saturating_sub(1))].concat()),
