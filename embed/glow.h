@@ -18,10 +18,17 @@ enum glow_status {
     GLOW_REPORT_TOO_SHORT = 4   /* report_len is below GLOW_REPORT_LEN; nothing is touched */
 };
 
-/* Refusal numbers. */
+/* What glow_import and glow_export return. */
+enum glow_exchange_status {
+    GLOW_EXCHANGE_WRITTEN = 0,          /* the result is at the front of out; the rest of out is as before */
+    GLOW_EXCHANGE_REFUSED = 3,          /* its number in report[GLOW_REFUSAL]; out is as before */
+    GLOW_EXCHANGE_REPORT_TOO_SHORT = 4  /* report_len is below GLOW_EXCHANGE_REPORT_LEN; nothing is touched */
+};
+
+/* Refusal numbers. glow_evaluate gives 1 to 13, glow_import 2, 12 and 14 to 16, glow_export 1 to 7 and 12. */
 enum glow_refusal {
     GLOW_FILE_TOO_SHORT = 1,    /* fewer than 4 bytes */
-    GLOW_FILE_LIMITS = 2,       /* f or n outside its limits */
+    GLOW_FILE_LIMITS = 2,       /* f or n outside its limits; of glow_import, f */
     GLOW_FILE_LENGTH = 3,       /* length is not 4 + 3 n */
     GLOW_FILE_TAG = 4,          /* a tag above 2 */
     GLOW_FILE_SHAPE = 5,        /* not one whole term, or a wrong left size */
@@ -32,7 +39,10 @@ enum glow_refusal {
     GLOW_NO_NAMES = 10,
     GLOW_NO_RENUMBER = 11,      /* renumber store shorter than the names in use */
     GLOW_NO_OUTPUT = 12,        /* the term written out exceeds the output */
-    GLOW_ENTRY = 13             /* proved never to come */
+    GLOW_ENTRY = 13,            /* proved never to come */
+    GLOW_BITS_TOO_SHORT = 14,   /* glow_import alone: the bits end inside a term, or there are none */
+    GLOW_BITS_PADDING = 15,     /* glow_import alone: the padding is not zero, or there is a spare byte */
+    GLOW_BITS_LIMITS = 16       /* glow_import alone: a node beyond GLOW_MOST_FILE_NODES, or a free name not below f */
 };
 
 /* Elements of the report. */
@@ -41,6 +51,9 @@ enum glow_report {
     GLOW_LEAVE_FUN = 5, GLOW_LEAVE_INERT = 6, GLOW_NODES = 7, GLOW_CELLS = 8, GLOW_NAMES = 9,
     GLOW_SUBST_ALLOWANCE = 10, GLOW_SHIFT_ALLOWANCE = 11, GLOW_REPORT_LEN = 12
 };
+
+/* The report of glow_import and glow_export has the first two alone; GLOW_WRITTEN is the bytes written. */
+#define GLOW_EXCHANGE_REPORT_LEN 2
 
 /* Tags of nodes. */
 enum glow_tag { GLOW_VARIABLE = 0, GLOW_ABSTRACTION = 1, GLOW_APPLICATION = 2 };
@@ -70,6 +83,28 @@ uint32_t glow_evaluate(
     uint16_t *renumber, size_t renumber_len,
     uint8_t *out_tags, size_t out_tags_len, uint16_t *out_args, size_t out_args_len,
     uint64_t *report, size_t report_len);
+
+/* Terms as bits of binary lambda calculus: 00 and a body is an abstraction, 01 and two terms an application, and
+   k + 1 ones followed by a zero the variable that is bound k abstractions out. With m abstractions around it and
+   k at least m it is the free name k - m. Bits fill bytes from the highest, and the last byte is padded with zeros:
+   \x. x is 0010, the byte 0x20. embed/exchange.c imports it and exports it back.
+
+   The two functions do not call themselves, and take at most GLOW_STACK_FOR_AN_EXCHANGE bytes of stack. As above no
+   two arrays may overlap, and where a length is 0 the pointer may be anything. */
+#define GLOW_STACK_FOR_AN_EXCHANGE 163840
+#define GLOW_MOST_IMPORTED 49156        /* bytes that an import writes at most: 4 + 3 GLOW_MOST_FILE_NODES */
+#define GLOW_MOST_EXPORTED 16781312     /* bytes that an export writes at most */
+
+/* From bits to a term file with f free names, of 4 + 3 n bytes. The refusals in the order of their tests: 2 where f is
+   above 16,384; 14 and 16 in the order of the bits, 16 at the last bit of the node in question; 15; and 12. */
+uint32_t glow_import(
+    const uint8_t *bits, size_t bits_len, uint32_t f,
+    uint8_t *out, size_t out_len, uint64_t *report, size_t report_len);
+
+/* From a term file to bits. The refusals in the order of their tests: 1 to 7, and 12. */
+uint32_t glow_export(
+    const uint8_t *file, size_t file_len,
+    uint8_t *out, size_t out_len, uint64_t *report, size_t report_len);
 
 #ifdef __cplusplus
 }

@@ -1,9 +1,9 @@
 #!/usr/bin/env bash
-# Tries the tests' strength: the plain machine with one thing wrong at a time is put in the library's place, and the tests must fail.
-# Works in a copy; the library itself is not touched.
+# Tries the tests' strength: the plain machine, or the plain import and export, with one thing wrong at a time is put in the library's
+# place, and the tests must fail. Works in a copy; the library itself is not touched.
 #   tools/mutants.sh [SCRATCH]        ONLY=word tries only the faults with this word in their names
 # A fault is caught by an assertion where a test compared two things and found them different, and else by a crash, or by the
-# time limit. Exit status 0: the machine with nothing wrong passes, and each fault was put in, compiled and caught.
+# time limit. Exit status 0: with nothing wrong they pass, and each fault was put in, compiled and caught.
 set -euo pipefail
 cd "$(dirname "$0")/.."
 tools/setup cc rust python
@@ -16,16 +16,24 @@ cp -r Cargo.toml Cargo.lock embed tests bench tools examples "$scratch/src/"
 cd "$scratch/src"
 export CARGO_TARGET_DIR="$scratch/target" GLOW_LIB_DIR="$scratch/lib" GLOW_RANDOM_TERMS=3000 RUST_BACKTRACE=0
 seconds=180
+machine=bench/plain/src/lib.rs
+exchange=tests/mock/src/exchange.rs
+calls=tests/mock/src/lib.rs
 faults=0 by_assertion=0 by_crash=0 by_time=0 wrong=0
 
-# Builds the archive from the plain machine with each FROM, which must occur, replaced by its TO. Says why not, if not.
+# The file that faults are put in, and the tests that look at the answers: first the machine's.
+source=$machine
+tests=(--test cases --test demand3 --test families --test random)
+
+# Builds the archive with each FROM, which must occur in the source, replaced by its TO. Says why not, if not.
 build() {
-    cp "$here/bench/plain/src/lib.rs" bench/plain/src/lib.rs
-    python3 - "$@" <<'P' || { echo "the place was not found"; return 1; }
+    local path
+    for path in "$machine" "$exchange" "$calls"; do cp "$here/$path" "$path"; done
+    python3 - "$source" "$@" <<'P' || { echo "the place was not found"; return 1; }
 import sys
-path = "bench/plain/src/lib.rs"
+path = sys.argv[1]
 text = open(path).read()
-for old, new in zip(sys.argv[1::2], sys.argv[2::2]):
+for old, new in zip(sys.argv[2::2], sys.argv[3::2]):
     if old not in text: sys.exit(1)
     text = text.replace(old, new, 1)
 open(path, "w").write(text)
@@ -34,10 +42,10 @@ P
     cp "$scratch/target/release/libmock.a" "$scratch/lib/libglow.a"
 }
 
-# Runs the tests that look at answers, with 6 GiB of memory at most; their status.
+# Runs these tests, with 6 GiB of memory at most; their status.
 run_tests() (
     ulimit -v 6291456
-    timeout "$seconds" cargo test -q --release --offline --no-fail-fast -p glow-tests --test cases --test demand3 --test families --test random > "$scratch/log" 2>&1
+    timeout "$seconds" cargo test -q --release --offline --no-fail-fast -p glow-tests "$@" > "$scratch/log" 2>&1
 )
 
 # How many tests failed because two things were different.
@@ -57,7 +65,7 @@ try() {
     case "$name" in *"${ONLY-}"*) ;; *) return ;; esac
     faults=$((faults + 1))
     why=$(build "$@") || { echo "$name: $why"; wrong=$((wrong + 1)); return; }
-    run_tests || status=$?
+    run_tests "${tests[@]}" || status=$?
     different=$(assertions)
     if [ "$status" -eq 0 ]; then echo "$name: SURVIVED"; wrong=$((wrong + 1))
     elif [ "$different" -gt 0 ]; then echo "$name: caught by an assertion, tests that failed: $different"; by_assertion=$((by_assertion + 1))
@@ -66,7 +74,7 @@ try() {
 }
 
 why=$(build) || { echo "the plain machine $why"; exit 1; }
-if run_tests; then echo "nothing wrong: passes"; else echo "nothing wrong: FAILED, see $scratch/log"; exit 1; fi
+if run_tests "${tests[@]}" --test binary; then echo "nothing wrong: passes"; else echo "nothing wrong: FAILED, see $scratch/log"; exit 1; fi
 
 # Where entries are wrong, a name or a stack may be a part of itself. To unfold it would not end; it is given up as too long.
 ends=("sums.push(0);" "if sums.len() > names { return None; } sums.push(0);"
@@ -149,6 +157,63 @@ try "leave kinds swapped" "if t == 1 { fun += 1 } else { inert += 1 }" "if t == 
 try "the binder check is skipped" "if arg(k) != next { return 6; }" ""
 try "scope: any binder before will do" "while around.last().is_some_and(|&(_, e)| e <= k) { around.pop(); }" ""
 try "an argument of an application unchecked" "if at != k + 1 { return 5; }" "if at > 99_000 { return 5; }"
+
+# import and export
+source=$exchange
+tests=(--test binary)
+
+try "import: bits from the lowest" ">> (7 - at % 8)" ">> (at % 8)"
+try "export: bits from the lowest" "128 >> (at % 8)" "1 << (at % 8)"
+try "import and export: bits from the lowest" ">> (7 - at % 8)" ">> (at % 8)" "128 >> (at % 8)" "1 << (at % 8)"
+try "import: k ones for k + 1" "(ones - 1, around.len())" "(ones, around.len())"
+try "import and export: k + 2 ones for k + 1" "(ones - 1, around.len())" "(ones.max(2) - 2, around.len())" "0..index + 1" "0..index + 2"
+try "import and export: the two kinds of node swapped" "1 + bit(bytes, at - 1)?" "2 - bit(bytes, at - 1)?" "next(tag == 2);" "next(tag == 1);"
+try "import: ones counted in 16 bits" "ones += 1;" "ones = (ones + 1) % 65_536;"
+try "import: no bits refused as a spare byte would be" "    let f = f as usize;
+    let mut tags" "    if bytes.is_empty() { return Err(15); }
+    let f = f as usize;
+    let mut tags"
+try "import: the padding not looked at" "if bit(bytes, at)? == 1 { return Err(15); }" ""
+try "import: a spare byte not looked at" "if at / 8 < bytes.len() { return Err(15); }" ""
+try "import: a spare byte of zeros accepted" "if at / 8 < bytes.len()" "if bytes[at / 8..].iter().any(|&byte| byte != 0)"
+try "import: 12 before 15" "    while at % 8 != 0 {" "    if out.len() < 4 + 3 * tags.len() { return Err(12); }
+    while at % 8 != 0 {"
+try "import: 15 before 16" "if k >= m + f { return Err(16); }" "if k >= m + f { return Err(if at.div_euclid(8) + 1 < bytes.len() { 15 } else { 16 }); }"
+try "import: 16 at the first bit of the node beyond" "        let mut ones = 0;" "        if tags.len() == MOST { bit(bytes, at)?; return Err(16); }
+        let mut ones = 0;"
+try "import: 16 at the first one too many" "ones += 1; at += 1; }" "ones += 1; at += 1; if ones > around.len() + f { return Err(16); } }"
+try "import: only 16383 nodes" "tags.len() == MOST " "tags.len() == MOST - 1 "
+try "import: 16385 nodes" "tags.len() == MOST " "tags.len() == MOST + 1 "
+try "import: the free name f" "k >= m + f " "k > m + f "
+try "import: the last free name refused" "k >= m + f " "k + 1 >= m + f && k >= m "
+try "import: f below 16384" "f > MOST as u32" "f >= MOST as u32"
+try "import: f to 16385" "f > MOST as u32" "f > MOST as u32 + 1"
+try "import: f read with 16 bits" "f > MOST as u32" "f as u16 > MOST as u16" "let f = f as usize;" "let f = f as u16 as usize;"
+try "import: 2 tested last" "if f > MOST as u32 { return Err(2); }" "" "    let n = tags.len();" "    if f > MOST { return Err(2); }
+    let n = tags.len();"
+try "import: a right part below the left part's abstractions" "around.truncate(m);" ""
+try "import: off by one in the output" "out.len() < 4 + 3 * n" "out.len() <= 4 + 3 * n"
+try "import: written before it is known to fit" "    if out.len() < 4 + 3 * n" "    if out.len() > 3 { put(out, 0, f); put(out, 2, n); }
+    if out.len() < 4 + 3 * n"
+try "import: a byte past the file changed" "    Ok(4 + 3 * n)" "    if let Some(next) = out.get_mut(4 + 3 * n) { *next ^= 1; }
+    Ok(4 + 3 * n)"
+try "export: free names without the abstractions around" "if x < f { m + x }" "if x < f { x }"
+try "export: abstractions around a right part not forgotten" "m = due.pop().unwrap_or(0);" "due.pop();"
+try "export: 12 before 1 to 7" "    if refusal != 0" "    if out.is_empty() { return Err(12); }
+    if refusal != 0"
+try "export: a whole byte of padding" "(bits(file, |_, _| {}) + 7) / 8" "bits(file, |_, _| {}) / 8 + 1"
+try "export: off by one in the output" "out.len() < written" "out.len() <= written"
+try "export: written before it is known to fit" "    if out.len() < written" "    if let Some(first) = out.first_mut() { *first = 0; }
+    if out.len() < written"
+try "export: all of the output zeroed" "out[..written].fill(0);" "out.fill(0);"
+try "export: the output not zeroed" "out[..written].fill(0);" ""
+
+source=$calls
+try "import and export: a third element of the report written" "    report[1] = written;" "    report[1] = written;
+    if let Some(third) = report.get_mut(2) { *third = 0; }"
+try "import and export: the bytes written not told as 0 at a refusal" "    report[1] = written;" "    if status == 0 { report[1] = written; }"
+try "import and export: a report of one element" "if report.len() < 2 { return 4; }" "if report.is_empty() { return 4; }" "    report[1] = written;" "    if report.len() > 1 { report[1] = written; }"
+try "import and export: a report of two elements too short" "if report.len() < 2 { return 4; }" "if report.len() < 3 { return 4; }"
 
 echo "$faults faults: $by_assertion caught by an assertion, $by_crash by a crash alone, $by_time by the time limit alone; $wrong not put in or not caught"
 [ "$wrong" -eq 0 ] && [ "$faults" -gt 0 ]

@@ -1,9 +1,12 @@
-//! A second implementation of the papers (source document 000 and 01), written separately:
+//! A second implementation of the papers (source document 000, 01 and 02), written separately:
 //! the calculus by plain substitution on trees, the machine by the five rules on ordinary
-//! data structures, and the comparison of the library with them.
+//! data structures, binary lambda calculus by descent into trees, and the comparison of the
+//! library with them.
+pub mod binary;
 pub mod calculus;
 pub mod case;
 pub mod enumerate;
+pub mod exchange;
 pub mod families;
 pub mod file;
 pub mod flat;

@@ -1,4 +1,5 @@
-//! Random terms, random damage to files, random lengths and budgets around what is needed.
+//! Random terms, random damage to files and to bits, random lengths and budgets around what is needed.
+use crate::binary::{packed, unpacked};
 use crate::families::*;
 use crate::flat::*;
 use crate::machine::{Answer, Lengths, Outcome};
@@ -113,6 +114,25 @@ pub fn damage(r: &mut Prng, bytes: &mut Vec<u8>) {
             }
             _ => {}
         }
+    }
+}
+
+/// Damage of many kinds to the bits of a term.
+pub fn damage_bits(r: &mut Prng, bytes: &mut Vec<u8>) {
+    if bytes.is_empty() { return bytes.push(r.next() as u8); }
+    let (k, bit) = (r.below(bytes.len()), r.below(8 * bytes.len()));
+    match r.below(12) {
+        0 => bytes.truncate(k),
+        1 => { bytes.pop(); }
+        2 => bytes.push(0),
+        3 => for _ in 0..r.between(1, 4) { bytes.push(r.next() as u8); },
+        4 | 5 => *bytes.last_mut().unwrap() |= 1 << r.below(8), // in the padding, as a rule
+        6 | 7 => bytes[bit / 8] ^= 128 >> (bit % 8),
+        8 => bytes[k] = r.next() as u8,
+        9 => bytes[k] = [0x00, 0xFF][r.below(2)],
+        // a bit more or less, which moves all that follow
+        10 => { let mut bits = unpacked(bytes); bits.insert(bit, r.one_in(2)); *bytes = packed(&bits); }
+        _ => { let mut bits = unpacked(bytes); bits.remove(bit); *bytes = packed(&bits); }
     }
 }
 

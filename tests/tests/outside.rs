@@ -1,4 +1,4 @@
-//! Around the library: the wrapper's own types, the C example, tools/terms, tools/glow and examples/.
+//! Around the library: the wrapper's own types, the examples in C and Rust, tools/terms, tools/glow and examples/.
 use glow_tests::case::Case;
 use glow_tests::machine::*;
 use glow_tests::process::{examples, root};
@@ -65,12 +65,14 @@ mod library {
         assert_eq!(term.to_file(1), from_text(1, "a1 v0 l1 v1").file());
     }
 
-    /// Builds and runs embed/rust/examples/first.rs.
+    /// Builds and runs each example of embed/rust/examples.
     #[test]
-    fn the_rust_example() {
-        let ran = Command::new(env!("CARGO")).args(["run", "--quiet", "--release", "--offline", "-p", "glow", "--example", "first"]).current_dir(root()).output().unwrap();
-        assert!(ran.status.success(), "{}", String::from_utf8_lossy(&ran.stderr));
-        assert_eq!(String::from_utf8_lossy(&ran.stdout), "a1 v0 v0, beta 1\n");
+    fn the_rust_examples() {
+        for (name, printed) in [("first", "a1 v0 v0, beta 1\n"), ("exchange", "file [0, 0, 2, 0, 1, 0, 0, 0, 0, 0], bits [32]\n")] {
+            let ran = Command::new(env!("CARGO")).args(["run", "--quiet", "--release", "--offline", "-p", "glow", "--example", name]).current_dir(root()).output().unwrap();
+            assert!(ran.status.success(), "{}", String::from_utf8_lossy(&ran.stderr));
+            assert_eq!(String::from_utf8_lossy(&ran.stdout), printed);
+        }
     }
 
     /// What a C program prints that is compiled with the header and the library.
@@ -87,11 +89,13 @@ mod library {
     }
 
     #[test]
-    fn the_c_example() {
+    fn the_c_examples() {
         assert_eq!(printed_by(&root().join("embed/example.c"), "example"), "status 0 refusal 0 beta 1 term a1 v0 v0\n");
+        let both = "import: status 0 refusal 0 bytes 00 00 02 00 01 00 00 00 00 00\nexport: status 0 refusal 0 bytes 20\n";
+        assert_eq!(printed_by(&root().join("embed/exchange.c"), "exchange"), both);
     }
 
-    /// The stack that the header tells is the wrapper's, and a C program may lend null for what it has not.
+    /// The stack and the numbers that the header tells are the wrapper's, and a C program may lend null for what it has not.
     #[test]
     fn the_header() {
         let mut told = String::new();
@@ -100,6 +104,10 @@ mod library {
         told += &format!("{} {}\n", glow::Stores::glow().stack_needed(), glow::MOST_STACK_NEEDED);
         // a report that is too short, no file, no nodes, and a file that needs no cell
         told += "4\n3 1\n2 9\n0 1\n";
+        told += &format!("{} {} {} {} {}\n", glow::EXCHANGE_REPORT_LEN, glow::STACK_FOR_AN_EXCHANGE, glow::MOST_IMPORTED, glow::MOST_EXPORTED, glow::MOST_NODES_IN_A_FILE);
+        told += &format!("{} {} {}\n", glow::ExchangeRefusal::BitsTooShort.number(), glow::ExchangeRefusal::Padding.number(), glow::ExchangeRefusal::BitsLimits.number());
+        // of import and export the statuses; a report that is too short; no bits, no room, no file, no room
+        told += "0 3 4\n4 4\n3 14\n3 12\n3 1\n3 12\n";
         assert_eq!(printed_by(&root().join("tests/header.c"), "header"), told);
     }
 }

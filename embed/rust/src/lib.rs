@@ -1,4 +1,4 @@
-//! A safe wrapper of `glow_evaluate`: open lambda terms evaluated by the Easy GLAMOUR machine.
+//! A safe wrapper of the glow library: open lambda terms evaluated by the Easy GLAMOUR machine.
 //!
 //! ```no_run
 //! use glow::{Answer, Outcome, Stores};
@@ -12,14 +12,21 @@
 //! [`Stores::evaluate`] may be called on any thread. Where the thread may have too little stack for what the stores can
 //! hold, the call is made on another one: see [`stack_needed`].
 //!
-//! Two places are `unsafe`: the one call of the C function, which is lent slices that are live for the whole call, each
-//! with its own length, and never two that overlap; and, on Linux, calls of the C library that tell where a thread's
-//! stack ends.
+//! [`import`] and [`export`] bring terms over from binary lambda calculus, and back.
+//!
+//! Two kinds of places are `unsafe`: the calls of the three C functions, which are lent slices that are live for the whole
+//! call, each with its own length, and never two that overlap; and, on Linux, calls of the C library that tell where a
+//! thread's stack ends.
 
+mod exchange;
 mod stack;
 
 use std::fmt;
 
+pub use exchange::{
+    export, export_in, export_to_vec, import, import_in, import_to_vec, ExchangeRefusal, ExchangeStatus, Exchanged,
+    EXCHANGE_REPORT_LEN, MOST_EXPORTED, MOST_IMPORTED, STACK_FOR_AN_EXCHANGE,
+};
 pub use stack::{stack_needed, MOST_STACK_NEEDED, STACK_FOR_A_CALL, STACK_FOR_A_LEVEL};
 
 /// Elements of the report array.

@@ -1,3 +1,5 @@
+mod exchange;
+
 use plain::{evaluate, Lent};
 
 /// A slice of a pointer that may be null where the length is 0.
@@ -25,4 +27,29 @@ pub unsafe extern "C" fn glow_evaluate(
     // a status that means nothing where a wrong machine panics, so that one test fails and the others go on
     let call = || evaluate(slice(file, file_len), budget, &mut lent, slice_mut(report, report_len));
     std::panic::catch_unwind(std::panic::AssertUnwindSafe(call)).unwrap_or(99)
+}
+
+/// The status of an import or an export, and the first two elements of the report.
+fn exchanged(work: impl FnOnce() -> Result<usize, u64>, report: &mut [u64]) -> u32 {
+    if report.len() < 2 { return 4; }
+    // as above where a wrong exchange panics
+    let Ok(answer) = std::panic::catch_unwind(std::panic::AssertUnwindSafe(work)) else { return 99 };
+    let (status, refusal, written) = match answer { Ok(written) => (0, 0, written as u64), Err(refusal) => (3, refusal, 0) };
+    report[0] = refusal;
+    report[1] = written;
+    status
+}
+
+/// # Safety
+/// As of `glow_evaluate`.
+#[no_mangle]
+pub unsafe extern "C" fn glow_import(bits: *const u8, bits_len: usize, f: u32, out: *mut u8, out_len: usize, report: *mut u64, report_len: usize) -> u32 {
+    exchanged(|| exchange::import(slice(bits, bits_len), f, slice_mut(out, out_len)), slice_mut(report, report_len))
+}
+
+/// # Safety
+/// As of `glow_evaluate`.
+#[no_mangle]
+pub unsafe extern "C" fn glow_export(file: *const u8, file_len: usize, out: *mut u8, out_len: usize, report: *mut u64, report_len: usize) -> u32 {
+    exchanged(|| exchange::export(slice(file, file_len), slice_mut(out, out_len)), slice_mut(report, report_len))
 }

@@ -82,7 +82,8 @@ pub fn refusals(text: &str) -> Checked {
 #[test]
 fn each_refusal() {
     assert_eq!(refusals(&manual()), Ok(13));
-    assert_eq!(c_enum("glow_refusal").len(), 13);
+    // with 14 to 16, which a run does not give
+    assert_eq!(c_enum("glow_refusal").len(), 16);
 }
 
 /// The outcome as the table has it: normal `v0`, spent, refused 9.
