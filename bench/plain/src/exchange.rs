@@ -10,7 +10,7 @@ struct Reader<'a> { bytes: &'a [u8], at: usize }
 impl Reader<'_> {
     fn bit(&mut self) -> Option<bool> {
         let byte = self.bytes.get(self.at / 8)?;
-        let bit = byte >> (7 - self.at % 8) & 1 == 1;
+        let bit = byte & 0x80 >> (self.at % 8) != 0;
         self.at += 1;
         Some(bit)
     }
@@ -79,18 +79,18 @@ pub fn export(file: &[u8], out: &mut [u8]) -> Result<usize, u32> {
     if refusal != 0 { return Err(refusal as u32); }
     let (f, n) = (word(file, 0), word(file, 2));
     let tags = &file[4..4 + n];
-    // the indices of the variables, in order
-    let mut indices: Vec<usize> = Vec::new();
+    // how many ones each variable has, in order
+    let mut ones: Vec<usize> = Vec::new();
     // for each abstraction so far, and for each right part to come, the number of abstractions around it
     let (mut depths, mut due): (Vec<usize>, Vec<usize>) = (Vec::new(), Vec::new());
     let mut around = 0;
     let mut length = 0;
-    for k in 0..n {
-        match tags[k] {
+    for (k, tag) in tags.iter().enumerate() {
+        match tag {
             0 => {
                 let name = word(file, 4 + n + 2 * k);
                 let index = if name < f { around + name } else { around - 1 - depths[name - f] };
-                indices.push(index);
+                ones.push(index + 1);
                 length += index + 2;
                 if let Some(depth) = due.pop() { around = depth; }
             }
@@ -102,12 +102,11 @@ pub fn export(file: &[u8], out: &mut [u8]) -> Result<usize, u32> {
     if out.len() < bytes { return Err(12); }
     out[..bytes].fill(0);
     let mut writer = Writer { bytes: out, at: 0 };
-    let mut indices = indices.into_iter();
-    for &tag in tags {
+    let mut ones = ones.into_iter();
+    for tag in tags {
         match tag {
             0 => {
-                let index = indices.next().expect("an index for each variable");
-                for _ in 0..=index { writer.bit(true); }
+                for _ in 0..ones.next().expect("a number for each variable") { writer.bit(true); }
                 writer.bit(false);
             }
             1 => { writer.bit(false); writer.bit(false); }
