@@ -16,9 +16,16 @@ const NO_STRING_INSTRUCTIONS: &str = "glibc.cpu.x86_rep_stosb_threshold=10000000
 /// Calls of each kind: the library's whole and short ones, the plain machine's whole and short ones.
 type Calls = [u64; 4];
 
+/// Says why not, if not.
+pub fn can_be_counted() -> bool {
+    let valgrind = Command::new("valgrind").arg("--version").output().is_ok();
+    if !cfg!(feature = "library") { println!("instructions are counted beside the library, and this benchmark is built without it"); }
+    else if !valgrind { println!("valgrind is not there: no instructions are counted"); }
+    cfg!(feature = "library") && valgrind
+}
+
 pub fn table() {
-    if !cfg!(feature = "library") { return println!("instructions are counted beside the library, and this benchmark is built without it"); }
-    if Command::new("valgrind").arg("--version").output().is_err() { return println!("valgrind is not there: no instructions are counted"); }
+    if !can_be_counted() { return; }
     println!("largest stores, made once, NOT cleared between calls; instructions executed, by callgrind, of a call with load and check of the file; all: with the result written, run: one step less and no result");
     println!("{:42} {:>6} {:10} | {:^39} | {:^35} | {:^11}", "", "", "", "per call", "per step", "lib / plain");
     println!("{:42} {:>6} {:10} | {:>9} {:>9} {:>9} {:>9} | {:>8} {:>8} {:>8} {:>8} | {:>5} {:>5}", "", "steps", "end",
@@ -38,11 +45,11 @@ fn counted_sizes(family: &Family) -> Vec<usize> {
 }
 
 fn row(case: &Case) {
-    let once = count(case, [1; 4]);
+    let once = count_calls(case, [1; 4]);
     let per_call = [0, 1, 2, 3].map(|kind| {
         let mut calls = [1; 4];
         calls[kind] += MORE;
-        (count(case, calls) - once) as f64 / MORE as f64
+        (count_calls(case, calls) - once) as f64 / MORE as f64
     });
     let [lw, ls, pw, ps] = per_call;
     let [lw_step, ls_step, pw_step, ps_step] = per_call.map(|i| if case.steps == 0 { "-".to_string() } else { format!("{:.1}", i / case.steps as f64) });
@@ -51,17 +58,24 @@ fn row(case: &Case) {
 }
 
 /// The instructions of a child that makes these calls on the case's file.
-fn count(case: &Case, calls: Calls) -> u64 {
+fn count_calls(case: &Case, calls: Calls) -> u64 {
+    let mut words = vec!["--calls".to_string(), case.short().to_string()];
+    words.extend(calls.map(|n| n.to_string()));
+    count(&words, &case.file)
+}
+
+/// The instructions of this program as a child with these words and this standard input.
+pub fn count(words: &[String], input: &[u8]) -> u64 {
     let mut child = Command::new("valgrind").env("GLIBC_TUNABLES", NO_STRING_INSTRUCTIONS).args(["--tool=callgrind", "--callgrind-out-file=/dev/null"])
-        .arg(std::env::current_exe().expect("the path of this program")).arg("--calls").arg(case.short().to_string()).args(calls.map(|n| n.to_string()))
+        .arg(std::env::current_exe().expect("the path of this program")).args(words)
         .stdin(Stdio::piped()).stderr(Stdio::piped()).spawn().expect("valgrind starts");
-    child.stdin.take().expect("a pipe").write_all(&case.file).expect("the child reads the file");
+    child.stdin.take().expect("a pipe").write_all(input).expect("the child reads its input");
     let said = String::from_utf8_lossy(&child.wait_with_output().expect("valgrind ends").stderr).into_owned();
     said.lines().find_map(|line| line.split_once("Collected : ")?.1.trim().parse().ok()).unwrap_or_else(|| panic!("callgrind gave no count:\n{said}"))
 }
 
 /// The child: `--calls SHORT`, a number of calls for each kind, and the file at standard input.
-pub fn make_calls(words: &[String]) {
+pub fn make_calls(words: &[&str]) {
     let numbers: Vec<u64> = words.iter().map(|word| word.parse().expect("a number")).collect();
     let [short, lib_all, lib_run, plain_all, plain_run] = numbers[..] else { panic!("--calls takes five numbers") };
     let mut file = Vec::new();

@@ -1,4 +1,5 @@
-//! The library through its wrapper, beside the plain array machine: steps per second, or instructions.
+//! The library through its wrapper, beside the plain array machine: steps per second, or instructions. `exchange` has its import
+//! and export of binary lambda calculus.
 //!
 //! Stores are the largest (32,768 nodes, cells and names; renumber 32,768; output 16,384), made once
 //! and NOT cleared between calls, the same for both. A call is load, run and, at normal, writing the
@@ -10,8 +11,10 @@
 //!     cargo run --release -p glow-bench            (--no-default-features: the plain machine alone)
 //!     cargo run --release -p glow-bench -- --instructions
 //!     cargo run --release -p glow-bench -- --text  (the program; GLOW_BIN names another)
+//!     cargo run --release -p glow-bench -- --exchange    (import and export; with --instructions behind it, instructions)
 //!     cargo run --release -p glow-bench -- --growth    (t_n of proposition 3 beside the old way)
-//!     bench/run.sh                                 all four, kept in bench/last.txt and bench/growth.txt
+//!     bench/run.sh                                 all of them, kept in bench/last.txt and bench/growth.txt
+mod exchange;
 #[cfg(feature = "library")]
 mod growth;
 mod instructions;
@@ -173,14 +176,17 @@ fn care_rows() {
 
 fn work() {
     let words: Vec<String> = std::env::args().skip(1).collect();
-    match words.first().map(String::as_str) {
-        None => { time_table(); if cfg!(feature = "library") { care_rows(); } }
-        Some("--instructions") => instructions::table(),
-        Some("--text") => text::table(),
+    match words.iter().map(String::as_str).collect::<Vec<_>>()[..] {
+        [] => { time_table(); if cfg!(feature = "library") { care_rows(); } }
+        ["--instructions"] => instructions::table(),
+        ["--text"] => text::table(),
+        ["--exchange"] => exchange::time_table(),
+        ["--exchange", "--instructions"] => exchange::instruction_table(),
         #[cfg(feature = "library")]
-        Some("--growth") => growth::table(),
-        Some("--calls") => instructions::make_calls(&words[1..]),
-        Some(other) => { eprintln!("glow-bench: {other} is not known; there are --instructions, --text and, with the library, --growth"); std::process::exit(2) }
+        ["--growth"] => growth::table(),
+        ["--calls", ref numbers @ ..] => instructions::make_calls(numbers),
+        ["--exchange-calls", ref numbers @ ..] => exchange::make_calls(numbers),
+        _ => { eprintln!("glow-bench: {} is not known; there are --instructions, --text, --exchange, --exchange --instructions and, with the library, --growth", words.join(" ")); std::process::exit(2) }
     }
 }
 

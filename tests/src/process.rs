@@ -10,11 +10,11 @@ use std::sync::atomic::{AtomicUsize, Ordering};
 
 pub fn root() -> PathBuf { Path::new(env!("CARGO_MANIFEST_DIR")).parent().unwrap().to_path_buf() }
 
-/// The term files of examples/; beside each is what glow prints for it.
+/// The term files of examples/; beside each is its text and what glow prints for it, and beside some are its bits as text.
 pub fn examples() -> Vec<PathBuf> {
     let mut all: Vec<PathBuf> = std::fs::read_dir(root().join("examples")).unwrap().map(|e| e.unwrap().path()).filter(|p| p.extension().is_some_and(|e| e == "term")).collect();
     all.sort();
-    assert!(all.len() >= 14);
+    assert!(all.len() >= 16);
     all
 }
 

@@ -1,7 +1,7 @@
 //! Around the library: the wrapper's own types, the examples in C and Rust, tools/terms, tools/glow and examples/.
 use glow_tests::case::Case;
 use glow_tests::machine::*;
-use glow_tests::process::{examples, root};
+use glow_tests::process::{examples, file_of, root};
 use std::path::Path;
 use std::process::Command;
 
@@ -27,6 +27,28 @@ fn terms_tool() {
     let wrong = Command::new("python3").arg(&terms).args(["make", "(x"]).output().unwrap();
     assert_eq!(wrong.status.code(), Some(1));
     assert!(String::from_utf8_lossy(&wrong.stderr).starts_with("terms: "));
+}
+
+/// The bits as text that stand beside some examples, and packed bits of all of them, there and back.
+#[test]
+fn terms_tool_bits() {
+    let terms = |words: &[&str], input: &[u8]| {
+        let done = Command::new("python3").arg(root().join("tools/terms")).args(words).stdin(file_of(input)).output().unwrap();
+        assert!(done.status.success(), "{words:?}: {}", String::from_utf8_lossy(&done.stderr));
+        done.stdout
+    };
+    let mut as_text = 0;
+    for path in examples() {
+        let file = std::fs::read(&path).unwrap();
+        let f = u16::from_le_bytes([file[0], file[1]]).to_string();
+        let packed = terms(&["export", "-"], &file);
+        assert_eq!(terms(&["import", "-f", &f, "-"], &packed), file, "{}", path.display());
+        let Ok(text) = std::fs::read(path.with_extension("bits")) else { continue };
+        assert_eq!(terms(&["show", "--bits", "-"], &file), text, "{}", path.display());
+        assert_eq!(terms(&["make", "--bits", "-f", &f, "-"], &text), file, "{}", path.display());
+        as_text += 1;
+    }
+    assert!(as_text >= 2);
 }
 
 /// What is no file is told before anything is built, and nothing is printed. What it prints for a file, the gate compares.

@@ -1,5 +1,5 @@
 //! Writes the texts of examples/ that are too long to write by hand: example_texts DIRECTORY.
-//! The .term files come from the texts by tools/terms, the .out files from glow2 (see examples/make.sh).
+//! The .term and .bits files come from the texts by tools/terms, the .out files from glow2 (see examples/make.sh).
 use glow_tests::families::*;
 use glow_tests::flat::*;
 
@@ -17,6 +17,10 @@ fn text(t: &[F]) -> String {
     }
     go(t, &mut 0, 0)
 }
+
+/// S and K of combinatory logic.
+fn s() -> Flat { l(100_000, l(100_001, l(100_002, apply(v(100_000), [v(100_002), a(v(100_001), v(100_002))])))) }
+fn k() -> Flat { l(100_000, l(100_001, v(100_000))) }
 
 fn main() {
     let dir = std::env::args().nth(1).expect("a directory");
@@ -37,6 +41,9 @@ fn main() {
         ("12-renamings", "section 7: renamings in a chain", y1, renamings(6)),
         ("13-stuck", "an inert term: nothing to do but shift", n2, apply(v(Y), [apply(v(W), [v(Y), v(Y)]), l(100_000, a(v(100_000), v(100_000)))])),
         ("14-fixed-point", "a call-by-value fixed point that loops", y1, z_loop()),
+        ("15-s-k-k", "S K K is the identity; as bits S is 00000001011110100111010 and K is 0000110", y1, apply(s(), [k(), k(), v(Y)])),
+        ("16-names-as-bits", "y is 10 as bits, below one abstraction 110 and below two 1110; x below two is 110", n2,
+            a(l(100_000, a(v(Y), l(100_001, apply(v(Y), [v(100_001), v(100_000), v(W)])))), v(Y))),
     ];
     for (name, what, head, t) in list {
         std::fs::write(format!("{dir}/{name}.txt"), format!("# {what}\n{head}{}\n", text(&t))).unwrap();
