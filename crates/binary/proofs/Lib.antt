@@ -5,3 +5,4 @@ pub mod Written
 pub mod Exchange
 pub mod Examples
 pub mod Limits
+pub mod Stacks

@@ -8,7 +8,7 @@ use lib.Dec.{ltb}
 use lib.ListN.{length, getD, take}
 use Rattle.termfile.specs.Code.{Code}
 use Rattle.termfile.specs.Meaning.{termOf}
-use Rattle.termfile.specs.File.{maxFree, maxNodes}
+use Rattle.termfile.specs.File.{tags}
 use Rattle.binary.specs.Bits.{bits}
 use Rattle.exporting.specs.Tokens.{tokens, Coded}
 use Rattle.exporting.specs.declared.measuring.Walk.{Walk}
@@ -36,22 +36,19 @@ pub record Small (w : Walk) (most : ℕ) : Type 0 where
   pub pending-small : w .pending ≤ most
   pub total-small : w .total ≤ 32770 * most
 
--- the arrays are long enough for n nodes, f is in its limits, and the nodes are a code
-pub record Measurable (f : ℕ) (ts ws ks ls ds : List ℕ) : Type 0 where
+-- the file stands for a code, and the arrays have room for its nodes
+pub record Measurable (s : List ℕ) (n f : ℕ) (ks ls ds : List ℕ) : Type 0 where
   pub code : Code
-  pub coded : Coded f ts ws code
-  pub few-free : f ≤ maxFree
-  pub few-nodes : length ts ≤ maxNodes
-  pub words-long : length ws ≡ 2 * length ts
-  pub indices-long : length ts ≤ length ks
-  pub levels-long : length ts ≤ length ls
-  pub depths-long : length ts ≤ length ds
+  pub coded : Coded s n f code
+  pub indices-long : n ≤ length ks
+  pub levels-long : n ≤ length ls
+  pub depths-long : n ≤ length ds
 
 -- the number of bits, and an index for each variable, by which they are put
-pub record Measures (ts ks : List ℕ) (c : Code) (r : ℕ) : Type 0 where
-  pub bits-are : tokens ts (take (length ts) ks) ≡ bits 0 (termOf c)
+pub record Measures (s : List ℕ) (n : ℕ) (ks : List ℕ) (c : Code) (r : ℕ) : Type 0 where
+  pub bits-are : tokens (tags s) (take n ks) ≡ bits 0 (termOf c)
   pub count : r ≡ length (bits 0 (termOf c))
-  pub few : r ≤ 32770 * length ts
+  pub few : r ≤ 32770 * n
 
 -- a name that is free, or that of an abstraction passed whose level is below the depth
 pub record Indexable (f : ℕ) (ls : List ℕ) (m x : ℕ) : Type 0 where

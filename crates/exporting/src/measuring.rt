@@ -84,9 +84,9 @@ fn pass_application(depths: &mut [u16], walk: Walk) -> Walk
 
 // Counts the bits of a term, and leaves the index of each variable in `indices`. At each turn the
 // first i nodes are passed. `levels` and `depths` are for its own use.
-pub fn measure(tags: &[u8], words: &[u8], f: usize, indices: &mut [u16], levels: &mut [u16], depths: &mut [u16]) -> usize
-    requires { ⌜ Measurable f (now tags) (now words) (now indices) (now levels) (now depths) ⌝ }
-    ensures { λ r. ⌜ ((c : Code) → Coded f (now (tags .entry)) (now (words .entry)) c → Measures (now (tags .entry)) (now (indices .exit)) c r) ⌝ }
+pub fn measure(file: &[u8], n: usize, f: usize, indices: &mut [u16], levels: &mut [u16], depths: &mut [u16]) -> usize
+    requires { ⌜ Measurable (now file) n f (now indices) (now levels) (now depths) ⌝ }
+    ensures { λ r. ⌜ ((c : Code) → Coded (now (file .entry)) n f c → Measures (now (file .entry)) n (now (indices .exit)) c r) ⌝ }
 {
     let mut walk = Walk {
         depth: 0,
@@ -94,11 +94,11 @@ pub fn measure(tags: &[u8], words: &[u8], f: usize, indices: &mut [u16], levels:
         total: 0,
     };
     let mut i = 0;
-    while i < tags.len() {
+    while i < n {
         let at = i;
         i += 1;
-        let tag = tags[at];
-        let argument = word(words[2 * at], words[2 * at + 1]);
+        let tag = file[4 + at];
+        let argument = word(file[4 + n + 2 * at], file[4 + n + 2 * at + 1]);
         match tag {
             0 => {
                 let k = index_of(levels, f, walk.depth, argument);

@@ -16,8 +16,9 @@ use Rattle.termfile.specs.Nodes.{Node, write}
 use Rattle.termfile.specs.Canonical.{binders, naming, canonical}
 use Rattle.termfile.proofs.Naming.{naming-size}
 use Rattle.termfile.proofs.Reading.{length-write}
+use Rattle.binary.specs.Stacks.{Stacked}
 use Rattle.binary.specs.Reading.{Place, whole, body, left, right, depth, Next, done, part, ended, variable}
-use Rattle.importing.specs.Holding.{nextName, around, nodesOf, nodesTo, openAt, Stacked, Holds, Before, After, Ready, nameOf}
+use Rattle.importing.specs.Holding.{nextName, around, nodesOf, nodesTo, openAt}
 use Rattle.importing.specs.declared.placing.Spot.{Spot}
 
 -- Nodes
@@ -28,25 +29,6 @@ pub laid-more : (g : Node → ℕ) (l : List ℕ) (ns : List Node) (x : Node) (n
 laid-more g l ns x n v h e w =
     ap (λ k. take k (set l n v)) (add-one n) ∙ take-suc-set l n v h ∙ ap (λ m. m ++ (v ∷ [])) e ∙ ap (λ y. map g ns ++ (y ∷ [])) w
     ∙ sym (map-append g ns (x ∷ []))
-
--- Stacks
-
--- a store past a stack leaves it
-pub stacked-set : (xs ys : List ℕ) (i v : ℕ) → length ys ≤ i → Stacked xs ys → Stacked (set xs i v) ys
-stacked-set xs [] i v h s = tt
-stacked-set xs (y ∷ ys) i v h s =
-    (getD-set-other xs i (length ys) v 0 (λ e. omega arith) ∙ s .0, stacked-set xs ys i v (omega arith) (s .1))
-
--- a store on top of it is one more element
-pub stacked-push : (xs ys : List ℕ) (i v y : ℕ) → i ≡ length ys → i < length xs → v ≡ y → Stacked xs ys → Stacked (set xs i v) (y ∷ ys)
-stacked-push xs ys i v y e h w s =
-    (ap (λ k. getD (set xs i v) k 0) (sym e) ∙ getD-set-same xs i v 0 h ∙ w, stacked-set xs ys i v (omega arith) s)
-
--- the element that is k below the top
-pub stacked-at : (xs ys : List ℕ) (k : ℕ) → k < length ys → Stacked xs ys → getD xs (length ys - 1 - k) 0 ≡ getD ys k 0
-stacked-at xs [] k h s = absurd (omega arith)
-stacked-at xs (y ∷ ys) zero h s = ap (λ i. getD xs i 0) (omega arith) ∙ s .0
-stacked-at xs (y ∷ ys) (suc k) h s = ap (λ i. getD xs i 0) (omega arith) ∙ stacked-at xs ys k (omega arith) (s .1)
 
 -- Places
 

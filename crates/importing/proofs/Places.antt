@@ -13,8 +13,10 @@ use Rattle.fireball.specs.Term.{Term, free, bound, size}
 use Rattle.termfile.specs.Nodes.{Node, write}
 use Rattle.termfile.specs.Canonical.{binders, naming}
 use Rattle.binary.specs.Reading.{Place, body, left, right, depth, part, ended, variable}
-use Rattle.importing.specs.Holding.{nextName, around, nodesOf, nodesTo, openAt, Stacked, Before, After, Ready, nameOf, Closable}
-use Rattle.importing.proofs.Holding.{laid-more, stacked-push, stacked-at, around-depth, nodes-size, nodes-few, Closes, Ends, ended-is}
+use Rattle.binary.specs.Stacks.{Stacked}
+use Rattle.binary.proofs.Stacks.{stacked-push, stacked-at}
+use Rattle.importing.specs.Holding.{nextName, around, nodesOf, nodesTo, openAt, Before, After, Ready, nameOf, Closable}
+use Rattle.importing.proofs.Holding.{laid-more, around-depth, nodes-size, nodes-few, Closes, Ends, ended-is}
 use Rattle.importing.specs.declared.placing.Spot.{Spot}
 
 module _ (f : ℕ) (p : Place) (st : Spot) (ts ms xs ys : List ℕ) (h : Before f p st ts ms xs ys) where

@@ -10,6 +10,7 @@ use lib.ListN.{length, getD, take}
 use Rattle.fireball.specs.Term.{Term, size}
 use Rattle.termfile.specs.Nodes.{Node, write}
 use Rattle.termfile.specs.Canonical.{binders, naming}
+use Rattle.binary.specs.Stacks.{Stacked}
 use Rattle.binary.specs.Reading.{Place, whole, body, left, right, depth}
 use Rattle.importing.specs.declared.placing.Spot.{Spot}
 
@@ -45,11 +46,6 @@ openAt f whole = []
 openAt f (body p) = openAt f p
 openAt f (left p) = length (nodesTo f p) ∷ openAt f p
 openAt f (right t p) = openAt f p
-
--- an array begins with the elements of a list, the last first
-abbrev pub Stacked : List ℕ → List ℕ → Type 0
-Stacked xs [] = Unit {0}
-Stacked xs (y ∷ ys) = (getD xs (length ys) 0 ≡ y) × Stacked xs ys
 
 -- the arrays hold the nodes ns, which lead to the place p or to the end of a term there, and `name` is the next to be bound
 pub record Holds (f : ℕ) (p : Place) (ns : List Node) (name : ℕ) (st : Spot) (ts ms xs ys : List ℕ) : Type 0 where

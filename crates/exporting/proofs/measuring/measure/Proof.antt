@@ -9,10 +9,10 @@ use Rattle.exporting.proofs.measuring.pass_variable.Reads as pass-varia
 use Rattle.termfile.proofs.word.Reads as word-reads
 
 abbrev Inv-loop : tie.InvT-loop
-Inv-loop tags words f indices₀ levels₀ depths₀ walk₀ i₀ indices levels depths walk i = ?
+Inv-loop file n f indices₀ levels₀ depths₀ walk₀ i₀ indices levels depths walk i = ?
 
 abbrev μ-loop : tie.MeasureT-loop
-μ-loop tags words f indices₀ levels₀ depths₀ walk₀ i₀ indices levels depths walk i = ?
+μ-loop file n f indices₀ levels₀ depths₀ walk₀ i₀ indices levels depths walk i = ?
 
 -- src/measuring.rt:97:5
 loop-holds : tie.Need-loop-holds Inv-loop μ-loop
@@ -22,27 +22,47 @@ loop-holds c = ?
 add-i : tie.Need-add-i Inv-loop μ-loop
 add-i c = ?
 
+-- src/measuring.rt:100:24
+add-tag : tie.Need-add-tag Inv-loop μ-loop
+add-tag c = ?
+
 -- src/measuring.rt:100:19
 shared-slice-read-tag : tie.Need-shared-slice-read-tag Inv-loop μ-loop
 shared-slice-read-tag c = ?
 
--- src/measuring.rt:101:35
+-- src/measuring.rt:101:34
+add-word : tie.Need-add-word Inv-loop μ-loop
+add-word c = ?
+
+-- src/measuring.rt:101:42
 mul-word : tie.Need-mul-word Inv-loop μ-loop
 mul-word c = ?
+
+-- src/measuring.rt:101:34
+add-word-2 : tie.Need-add-word-2 Inv-loop μ-loop
+add-word-2 c = ?
 
 -- src/measuring.rt:101:29
 shared-slice-read-word : tie.Need-shared-slice-read-word Inv-loop μ-loop
 shared-slice-read-word c = ?
 
--- src/measuring.rt:101:50
+-- src/measuring.rt:101:56
+add-word-3 : tie.Need-add-word-3 Inv-loop μ-loop
+add-word-3 c = ?
+
+-- src/measuring.rt:101:64
 mul-word-2 : tie.Need-mul-word-2 Inv-loop μ-loop
 mul-word-2 c = ?
 
--- src/measuring.rt:101:50
-add-word : tie.Need-add-word Inv-loop μ-loop
-add-word c = ?
+-- src/measuring.rt:101:56
+add-word-4 : tie.Need-add-word-4 Inv-loop μ-loop
+add-word-4 c = ?
 
--- src/measuring.rt:101:44
+-- src/measuring.rt:101:56
+add-word-5 : tie.Need-add-word-5 Inv-loop μ-loop
+add-word-5 c = ?
+
+-- src/measuring.rt:101:51
 shared-slice-read-word-2 : tie.Need-shared-slice-read-word-2 Inv-loop μ-loop
 shared-slice-read-word-2 c = ?
 
@@ -130,11 +150,16 @@ measure-spec =
     μ-loop
     loop-holds
     add-i
+    add-tag
     shared-slice-read-tag
-    mul-word
-    shared-slice-read-word
-    mul-word-2
     add-word
+    mul-word
+    add-word-2
+    shared-slice-read-word
+    add-word-3
+    mul-word-2
+    add-word-4
+    add-word-5
     shared-slice-read-word-2
     word-requires
     index-of-requires

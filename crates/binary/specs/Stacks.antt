@@ -1,0 +1,10 @@
+-- How an array keeps what is open: import and export hold the parts of a term that are not at their end in arrays, the innermost last.
+use Prim.Native.Nat.{ℕ}
+use mathlib.Core.Path.{_≡_}
+use mathlib.Core.List.{List, [], _∷_}
+use lib.ListN.{length, getD}
+
+-- an array begins with the elements of a list, the last first
+abbrev pub Stacked : List ℕ → List ℕ → Type 0
+Stacked xs [] = Unit {0}
+Stacked xs (y ∷ ys) = (getD xs (length ys) 0 ≡ y) × Stacked xs ys
