@@ -1,40 +1,35 @@
+-- `measuring::index_of` meets its contract: a free name is counted past all abstractions, and another from its level.
+-- Assumes nothing.
+use Prim.Native.Nat.{_-_}
+use native.Mathlib.Omega.{arith}
 use borrow.Author.Needs.{needs}
+use borrow.Author.Tests.{lt-ltb, le-ltb}
 use Rattle.exporting.proofs.measuring.index_of.Statement.{statement}
 use Rattle.exporting.proofs.measuring.index_of.Tie as tie
-use Rattle.exporting.proofs.measuring.index_of.Reads as reads
-use Rattle.exporting.proofs.measuring.index_of.Lts as lts
 
--- src/measuring.rt:25:9
 add-result : tie.Need-add-result
 add-result c = search needs
 
--- src/measuring.rt:27:9
 sub-result : tie.Need-sub-result
-sub-result c = ?
+sub-result c = omega (arith, c .before .pre .level-below (c .if1 .left))
 
--- src/measuring.rt:27:21
 mul-result : tie.Need-mul-result
-mul-result c = ?
+mul-result c = omega (arith, c .before .pre .level-known (c .if1 .left), c .before .good)
 
--- src/measuring.rt:27:21
 shared-slice-read-result : tie.Need-shared-slice-read-result
-shared-slice-read-result c = ?
+shared-slice-read-result c = c .before .before .pre .level-known (c .before .if1 .left)
 
--- src/measuring.rt:27:21
 cast-result : tie.Need-cast-result
-cast-result c = ?
+cast-result c = omega (arith, c .shared-slice-known .given (c .before .before .args .x - c .before .before .args .f))
 
--- src/measuring.rt:27:9
 sub-result-2 : tie.Need-sub-result-2
-sub-result-2 c = ?
+sub-result-2 c = omega (arith, c .before .before .pre .level-below (c .before .if1 .left))
 
--- src/measuring.rt:20:1
 returns : tie.Need-returns
-returns c = ?
+returns c = rw (lt-ltb _ _ (c .if1 .taken))
 
--- src/measuring.rt:20:1
 returns-2 : tie.Need-returns-2
-returns-2 c = ?
+returns-2 c = rw (le-ltb _ _ (c .before .if1 .left))
 
 pub index-of-spec : {M : Type 1} → statement M
 index-of-spec =

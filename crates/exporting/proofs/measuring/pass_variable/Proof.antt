@@ -1,40 +1,35 @@
+-- `measuring::pass_variable` meets its contract: the top of the stack is next, where there is one.
+-- Assumes nothing.
+use Prim.Native.Nat.{_-_}
+use native.Mathlib.Omega.{arith}
 use borrow.Author.Needs.{needs}
+use borrow.Author.Tests.{lt-ltb, le-ltb}
 use Rattle.exporting.proofs.measuring.pass_variable.Statement.{statement}
 use Rattle.exporting.proofs.measuring.pass_variable.Tie as tie
-use Rattle.exporting.proofs.measuring.pass_variable.Reads as reads
-use Rattle.exporting.proofs.measuring.pass_variable.Lts as lts
 
--- src/measuring.rt:37:31
 add-total : tie.Need-add-total
 add-total c = search needs
 
--- src/measuring.rt:37:17
 add-total-2 : tie.Need-add-total-2
 add-total-2 c = search needs
 
--- src/measuring.rt:40:20
 sub-next : tie.Need-sub-next
 sub-next c = search needs
 
--- src/measuring.rt:42:20
 mul-t9 : tie.Need-mul-t9
 mul-t9 c = search needs
 
--- src/measuring.rt:42:20
 shared-slice-read-t11 : tie.Need-shared-slice-read-t11
 shared-slice-read-t11 c = search needs
 
--- src/measuring.rt:42:20
 cast-t12 : tie.Need-cast-t12
-cast-t12 c = ?
+cast-t12 c = omega (arith, c .shared-slice-known .given (c .before .before .before .args .walk .pending - 1))
 
--- src/measuring.rt:41:9
 returns : tie.Need-returns
-returns c = ?
+returns c = rw (lt-ltb _ _ (c .before .if1 .taken))
 
--- src/measuring.rt:32:1
 returns-2 : tie.Need-returns-2
-returns-2 c = ?
+returns-2 c = rw (le-ltb _ _ (c .if1 .left))
 
 pub pass-variable-spec : {M : Type 1} → statement M
 pass-variable-spec =
