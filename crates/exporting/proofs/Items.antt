@@ -66,14 +66,15 @@ levels-set f ls low v (y ∷ ys) h l =
 pub items-set : (f : ℕ) (ls : List ℕ) (low name v : ℕ) (todo : List Item) → f ≤ low → Items f ls low name todo
     → Items f (set ls (low - f) v) (suc low) name todo
 items-set f ls low name v [] h g = tt
-items-set f ls low name v (part ys c ∷ todo) h g =
-    (record {
-      levels-are = levels-set f ls low v ys h (g .0 .levels-are);
-      few = omega (arith, g .0 .few);
-      in-order = g .0 .in-order;
-      in-scope = g .0 .in-scope;
-    },
-    items-set f ls low (name + abstractions c) v todo h (g .1))
+items-set f ls low name v (part ys c ∷ todo) h g = (
+  record {
+    levels-are = levels-set f ls low v ys h (g .0 .levels-are);
+    few = omega (arith, g .0 .few);
+    in-order = g .0 .in-order;
+    in-scope = g .0 .in-scope;
+  },
+  items-set f ls low (name + abstractions c) v todo h (g .1),
+)
 
 -- The index of a variable
 

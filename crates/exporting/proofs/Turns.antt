@@ -108,10 +108,10 @@ module _ (s : List ℕ) (n f : ℕ) (c : Code) (coded : Coded s n f c) (i : ℕ)
             let depth-is = g .here .0 in
             let good = g .items .0 in
             let range : Indexable f ls (w .depth) m =
-                  subst (λ y. Indexable f ls (w .depth) y) (sym same)
-                  (subst (λ y. Indexable f ls y x) (sym depth-is)
-                  (indexable f ls (h .low) x ys (good .levels-are) (good .in-scope) (omega (arith, good .few, g .passed)) (omega (arith, coded .few-free))
-                  (omega (arith, g .passed)))) in
+            subst (λ y. Indexable f ls (w .depth) y) (sym same)
+            (subst (λ y. Indexable f ls y x) (sym depth-is)
+            (indexable f ls (h .low) x ys (good .levels-are) (good .in-scope) (omega (arith, good .few, g .passed)) (omega (arith, coded .few-free))
+            (omega (arith, g .passed)))) in
             record {
               in-range = range;
               pending-few = omega (arith, g .here .1, g .many);
@@ -122,8 +122,8 @@ module _ (s : List ℕ) (n f : ℕ) (c : Code) (coded : Coded s n f c) (i : ℕ)
                   let at-i = getD-set-same ks i k 0 (omega arith) in
                   let front = take-set-le i ks i k (omega arith) in
                   let bits-x : bits (length ys) (values ys x) ≡ index k =
-                        bits-variable f ls (h .low) x ys (good .levels-are) (good .in-scope)
-                        ∙ ap (λ y. index (indexOf ls f y x)) (sym depth-is) ∙ ap (λ y. index (indexOf ls f (w .depth) y)) (sym same) ∙ ap index (sym k-is) in
+                  bits-variable f ls (h .low) x ys (good .levels-are) (good .in-scope)
+                  ∙ ap (λ y. index (indexOf ls f y x)) (sym depth-is) ∙ ap (λ y. index (indexOf ls f (w .depth) y)) (sym same) ∙ ap index (sym k-is) in
                   let small = index-few f ls (w .depth) m range in
                   record {
                     todo = todo;
@@ -171,8 +171,8 @@ module _ (s : List ℕ) (n f : ℕ) (c : Code) (coded : Coded s n f c) (i : ℕ)
             let x-low : x ≡ low = eqb-true x low (order .0) in
             let m-low : m ≡ low = ap firstArgument e ∙ x-low in
             let level : getD (set ls (low - f) (w .depth)) (x - f) 0 ≡ length ys =
-                  ap (λ y. getD (set ls (low - f) (w .depth)) (y - f) 0) x-low
-                  ∙ getD-set-same ls (low - f) (w .depth) 0 (omega (arith, g .passed)) ∙ g .here .0 in
+            ap (λ y. getD (set ls (low - f) (w .depth)) (y - f) 0) x-low
+            ∙ getD-set-same ls (low - f) (w .depth) 0 (omega (arith, g .passed)) ∙ g .here .0 in
             let renumbered : low + abstractions (abs x d) ≡ suc low + abstractions d = omega arith in
             record {
               bound-from = omega (arith, g .free-low);
@@ -191,17 +191,21 @@ module _ (s : List ℕ) (n f : ℕ) (c : Code) (coded : Coded s n f c) (i : ℕ)
                     walking =
                         record {
                           nodes-are = ap (drop 1) e;
-                          items =
-                              (record {
-                                levels-are =
-                                    (omega (arith, g .free-low), omega arith, level,
-                                    levels-set f ls low (w .depth) ys (g .free-low) (good .levels-are));
-                                few = omega (arith, good .few);
-                                in-order = order .1;
-                                in-scope = good .in-scope;
-                              },
-                              subst (λ y. Items f (set ls (low - f) (w .depth)) (suc low) y todo) renumbered
-                              (items-set f ls low (low + abstractions (abs x d)) (w .depth) todo (g .free-low) (g .items .1)));
+                          items = (
+                            record {
+                              levels-are = (
+                                omega (arith, g .free-low),
+                                omega arith,
+                                level,
+                                levels-set f ls low (w .depth) ys (g .free-low) (good .levels-are),
+                              );
+                              few = omega (arith, good .few);
+                              in-order = order .1;
+                              in-scope = good .in-scope;
+                            },
+                            subst (λ y. Items f (set ls (low - f) (w .depth)) (suc low) y todo) renumbered
+                                (items-set f ls low (low + abstractions (abs x d)) (w .depth) todo (g .free-low) (g .items .1)),
+                          );
                           free-low = omega (arith, g .free-low);
                           passed = omega (arith, g .passed);
                           here = (omega (arith, g .here .0), g .here .1, g .here .2);
@@ -260,16 +264,21 @@ module _ (s : List ℕ) (n f : ℕ) (c : Code) (coded : Coded s n f c) (i : ℕ)
                     walking =
                         record {
                           nodes-are = ap (drop 1) e ∙ append-assoc (write d) (write b) (nodesOf todo);
-                          items =
-                              (record { levels-are = good .levels-are; few = good .few; in-order = order .0; in-scope = scope .0 },
-                              (record { levels-are = good .levels-are; few = good .few; in-order = order .1; in-scope = scope .1 },
-                              subst (λ y. Items f ls low y todo) later (g .items .1)));
+                          items = (
+                            record { levels-are = good .levels-are; few = good .few; in-order = order .0; in-scope = scope .0 },
+                            (
+                              record { levels-are = good .levels-are; few = good .few; in-order = order .1; in-scope = scope .1 },
+                              subst (λ y. Items f ls low y todo) later (g .items .1),
+                            ),
+                          );
                           free-low = g .free-low;
                           passed = omega (arith, g .passed);
-                          here =
-                              (g .here .0, omega (arith, g .here .1),
-                              stacked-push ds (depthsOf todo) (w .pending) (w .depth) (length ys) (g .here .1 ∙ sym (length-depths todo)) stack-fits (g .here .0)
-                              (g .here .2));
+                          here = (
+                            g .here .0,
+                            omega (arith, g .here .1),
+                            stacked-push ds (depthsOf todo) (w .pending) (w .depth) (length ys) (g .here .1 ∙ sym (length-depths todo)) stack-fits (g .here .0)
+                                (g .here .2),
+                          );
                           many = omega (arith, g .many);
                           bits-are =
                               bits-next ks (getD ks i 0) (bits-d ++ (bits-b ++ bitsOf todo)) (omega arith) refl refl

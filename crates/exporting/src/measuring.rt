@@ -84,7 +84,14 @@ fn pass_application(depths: &mut [u16], walk: Walk) -> Walk
 
 // Counts the bits of a term, and leaves the index of each variable in `indices`. At each turn the
 // first i nodes are passed. `levels` and `depths` are for its own use.
-pub fn measure(file: &[u8], n: usize, f: usize, indices: &mut [u16], levels: &mut [u16], depths: &mut [u16]) -> usize
+pub fn measure(
+    file: &[u8],
+    n: usize,
+    f: usize,
+    indices: &mut [u16],
+    levels: &mut [u16],
+    depths: &mut [u16],
+) -> usize
     requires { ⌜ Measurable (now file) n f (now indices) (now levels) (now depths) ⌝ }
     ensures { λ r. ⌜ ((c : Code) → Coded (now (file .entry)) n f c → Measures (now (file .entry)) n (now (indices .exit)) c r) ⌝ }
 {

@@ -5,6 +5,7 @@ pub mod Sets
 pub mod Bytes
 pub mod Refusals
 pub mod Acceptance
+pub mod Told
 pub mod Writing
 pub mod Theorems
 pub mod Frame

@@ -132,9 +132,11 @@ loop-again c =
     let framed = pre .coded .framed in
     let less = c .before .before .before .before .before .before .before .before .before .loop-test .taken in
     let tag = sym (tag-at (a .file .now) (framed .count) (exact framed) (l .i) less) in
-    let argument = c .before .before .before .before .before .word .ensures ∙ sym (argument-at (a .file .now) (framed .count) (exact framed) (l .i) less) in
-    (omega arith, (simp length-set (l .inv .1 .0), l .inv .1 .1, l .inv .1 .2),
-    λ d h. walks-as refl refl (c .pass-variable .ensures) ((at-variable (a .file .now) (a .n) (a .f) (d) (h) (l .i) less (l .indices) (l .levels) (l .depths) (l .walk) _ _ tag argument (c .before .before .before .before .match .keys1) (framed .most) (omega (arith, pre .indices-long, l .inv .1 .0)) (omega (arith, pre .levels-long, l .inv .1 .1)) (l .inv .2 (d) (h))) .again _ (c .before .before .index-of .ensures)))
+    let argument = c .before .before .before .before .before .word .ensures ∙ sym (argument-at (a .file .now) (framed .count) (exact framed) (l .i) less) in (
+      omega arith,
+      (simp length-set (l .inv .1 .0), l .inv .1 .1, l .inv .1 .2),
+      λ d h. walks-as refl refl (c .pass-variable .ensures) ((at-variable (a .file .now) (a .n) (a .f) (d) (h) (l .i) less (l .indices) (l .levels) (l .depths) (l .walk) _ _ tag argument (c .before .before .before .before .match .keys1) (framed .most) (omega (arith, pre .indices-long, l .inv .1 .0)) (omega (arith, pre .levels-long, l .inv .1 .1)) (l .inv .2 (d) (h))) .again _ (c .before .before .index-of .ensures)),
+    )
 
 sub-pass-abstraction : tie.Need-sub-pass-abstraction Inv-loop μ-loop
 sub-pass-abstraction c =
@@ -171,9 +173,11 @@ loop-again-2 c =
     let less = c .before .before .before .before .before .before .before .before .before .loop-test .taken in
     let tag = sym (tag-at (a .file .now) (framed .count) (exact framed) (l .i) less) in
     let argument = c .before .before .before .before .before .word .ensures ∙ sym (argument-at (a .file .now) (framed .count) (exact framed) (l .i) less) in
-    let r = c .before .before .pass-abstraction in
-    (omega arith, (l .inv .1 .0, r .kept .0 ∙ l .inv .1 .1, l .inv .1 .2),
-    λ d h. walks-as (r .ensures .1) refl (r .ensures .0) ((at-abstraction (a .file .now) (a .n) (a .f) (d) (h) (l .i) less (l .indices) (l .levels) (l .depths) (l .walk) _ _ tag argument (c .before .before .before .before .match .keys2) (framed .most) (omega (arith, pre .indices-long, l .inv .1 .0)) (omega (arith, pre .levels-long, l .inv .1 .1)) (l .inv .2 (d) (h))) .again))
+    let r = c .before .before .pass-abstraction in (
+      omega arith,
+      (l .inv .1 .0, r .kept .0 ∙ l .inv .1 .1, l .inv .1 .2),
+      λ d h. walks-as (r .ensures .1) refl (r .ensures .0) ((at-abstraction (a .file .now) (a .n) (a .f) (d) (h) (l .i) less (l .indices) (l .levels) (l .depths) (l .walk) _ _ tag argument (c .before .before .before .before .match .keys2) (framed .most) (omega (arith, pre .indices-long, l .inv .1 .0)) (omega (arith, pre .levels-long, l .inv .1 .1)) (l .inv .2 (d) (h))) .again),
+    )
 
 pass-application-requires : tie.Need-pass-application-requires Inv-loop μ-loop
 pass-application-requires c κs =
@@ -199,9 +203,11 @@ loop-again-3 c =
     let less = c .before .before .before .before .before .before .before .before .before .loop-test .taken in
     let tag = sym (tag-at (a .file .now) (framed .count) (exact framed) (l .i) less) in
     let argument = c .before .before .before .before .before .word .ensures ∙ sym (argument-at (a .file .now) (framed .count) (exact framed) (l .i) less) in
-    let r = c .before .before .pass-application in
-    (omega arith, (l .inv .1 .0, l .inv .1 .1, r .kept .0 ∙ l .inv .1 .2),
-    λ d h. walks-as refl (r .ensures .1) (r .ensures .0) ((at-application (a .file .now) (a .n) (a .f) (d) (h) (l .i) less (l .indices) (l .levels) (l .depths) (l .walk) _ _ tag argument (c .before .before .before .before .match .rest .0 .1) (c .before .before .before .before .match .rest .1) (framed .most) (omega (arith, pre .indices-long, l .inv .1 .0)) (omega (arith, pre .depths-long, l .inv .1 .2)) (l .inv .2 (d) (h))) .again))
+    let r = c .before .before .pass-application in (
+      omega arith,
+      (l .inv .1 .0, l .inv .1 .1, r .kept .0 ∙ l .inv .1 .2),
+      λ d h. walks-as refl (r .ensures .1) (r .ensures .0) ((at-application (a .file .now) (a .n) (a .f) (d) (h) (l .i) less (l .indices) (l .levels) (l .depths) (l .walk) _ _ tag argument (c .before .before .before .before .match .rest .0 .1) (c .before .before .before .before .match .rest .1) (framed .most) (omega (arith, pre .indices-long, l .inv .1 .0)) (omega (arith, pre .depths-long, l .inv .1 .2)) (l .inv .2 (d) (h))) .again),
+    )
 
 same-length : tie.Need-same-length Inv-loop μ-loop
 same-length c = c .before .loop .inv .1 .0
