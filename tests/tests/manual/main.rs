@@ -28,12 +28,19 @@ fn same<T: PartialEq + std::fmt::Debug>(what: &str, shown: T, right: T) -> Resul
 
 fn number(shown: &str) -> Result<usize, String> { shown.replace(',', "").trim().parse().map_err(|_| format!("{shown:?} is not a number")) }
 
-/// The one table whose head begins so.
-fn table(text: &str, head: &[&str]) -> Result<Table, String> {
-    let mut all: Vec<Table> = tables(text)?.into_iter().filter(|t| t.head.len() >= head.len() && t.head.iter().zip(head).all(|(x, y)| x == y)).collect();
-    need(all.len() == 1, || format!("{} tables begin with {head:?}", all.len()))?;
+/// The tables whose head begins so.
+fn tables_with(text: &str, head: &[&str]) -> Result<Vec<Table>, String> {
+    Ok(tables(text)?.into_iter().filter(|t| t.head.len() >= head.len() && t.head.iter().zip(head).all(|(x, y)| x == y)).collect())
+}
+
+/// The only one of these tables.
+fn one(mut all: Vec<Table>, what: &str) -> Result<Table, String> {
+    need(all.len() == 1, || format!("{} tables of {what}", all.len()))?;
     Ok(all.remove(0))
 }
+
+/// The one table whose head begins so.
+fn table(text: &str, head: &[&str]) -> Result<Table, String> { one(tables_with(text, head)?, &format!("{head:?}")) }
 
 /// The numbers that a C enum of the header gives its names.
 fn c_enum(name: &str) -> Vec<(String, usize)> {

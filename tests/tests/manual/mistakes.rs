@@ -2,7 +2,7 @@
 use crate::links::links_lead;
 use crate::named::{arrays, constants, definitions, header_table, promises, sentences};
 use crate::shown::{outputs, pairs, Place};
-use crate::tried::{byte_by_byte, refusals, step_by_step, worked_runs};
+use crate::tried::{byte_by_byte, refusals, step_by_step, worked_imports, worked_runs};
 use crate::{manual, Checked};
 use glow_tests::process::root;
 
@@ -28,19 +28,35 @@ fn mistakes_are_found_out() {
     found_out(refusals, "`GLOW_NO_NODES` |", "`GLOW_NO_NAMES` |");
     found_out(refusals, "`Chain` |", "`Entry` |");
     found_out(refusals, "`Unbound`", "`Variable`");
+    found_out(refusals, "| 14 | the bits end", "| 16 | the bits end");
+    found_out(refusals, "`00`, f = 0 |", "`80`, f = 0 |");
+    found_out(refusals, "`80`, f = 0 |", "`80`, f = 1 |");
+    found_out(refusals, "| `Ends` |", "| `Range` |");
+    found_out(refusals, "`GLOW_BITS_LIMITS` |", "`GLOW_BITS_TOO_SHORT` |");
+    found_out(refusals, "`BitsTooShort` |", "`BitsLimits` |");
+    found_out(worked_imports, "| `ff` | 0 | 10 | refused 14 |", "| `ff` | 0 | 10 | refused 16 |");
+    found_out(worked_imports, "| none | 16,385 | 10 | refused 2 |", "| none | 16,385 | 10 | refused 14 |");
+    found_out(worked_imports, "| `1a 00` | 0 |", "| `1a` | 0 |");
+    found_out(worked_imports, "| `20` | 0 | 9 |", "| `20` | 0 | 10 |");
     found_out(worked_runs, "| budget 3 | normal `v0` |", "| budget 3 | spent |");
     found_out(worked_runs, "| 21 | 3 | 5 |", "| 21 | 3 | 6 |");
     found_out(step_by_step, "| leave-inert | `v1` |", "| leave-fun | `v1` |");
     found_out(step_by_step, "| 11 3 4 |", "| 11 3 5 |");
     found_out(byte_by_byte, "| 29 | `02 00` |", "| 29 | `03 00` |");
     found_out(|text| header_table(text, "element", "glow_report"), "| 5 | `GLOW_LEAVE_FUN` |", "| 5 | `GLOW_LEAVE_INERT` |");
+    found_out(|text| header_table(text, "status", "glow_exchange_status"), "| 3 | `GLOW_EXCHANGE_REFUSED` |", "| 2 | `GLOW_EXCHANGE_REFUSED` |");
+    found_out(|text| header_table(text, "status", "glow_status"), "| 3 | `GLOW_FILE_REFUSED` |", "| 3 | `GLOW_EXCHANGE_REFUSED` |");
     found_out(constants, "106,496 |", "106,497 |");
+    found_out(constants, "163,840 |", "163,480 |");
+    found_out(constants, "`GLOW_MOST_EXPORTED` |", "`GLOW_MOST_IMPORTED` |");
     found_out(sentences, "2,072,576", "2,072,577");
     found_out(sentences, "| name store | 32,768 |", "| name store | 16,384 |");
     found_out(arrays, "`owns`, `nexts` |", "`nexts`, `owns` |");
     found_out(arrays, "| 32,768 | enter |", "| 16,384 | enter |");
     found_out(promises, "| `demand1` |", "| `demand2` |");
     found_out(promises, "`stores-lengths`, ", "");
+    found_out(promises, "| `file-back` |", "| `bits-back` |");
+    found_out(promises, "| `output-is` |", "| `answer-is` |");
     found_out(definitions, "[`harmony`]", "[`harmonies`]");
     found_out(|text| links_lead(&root().join("docs/REFERENCE.md"), text), "specs/Calculus.antt", "specs/Calculs.antt");
     found_out(|text| links_lead(&root().join("docs/REFERENCE.md"), text), "(#sources)", "(#source)");
@@ -48,8 +64,13 @@ fn mistakes_are_found_out() {
     found_out(kinds, "```text\n", "```\n");
     found_out(kinds, "```sh\n", "```bash\n");
     found_out(kinds, "budget: u32,\n", "budget: u64,\n");
+    found_out(kinds, "pub fn import(bits: &[u8], f: usize,", "pub fn import(bits: &[u8], f: u32,");
+    found_out(kinds, "const uint8_t *bits, size_t bits_len, uint32_t f,", "const uint8_t *bits, size_t bits_len, uint16_t f,");
     let place = Place::new("mistakes");
     let shown = one_pair(&manual(), "tools/glow examples/03");
     outputs(&shown, &place).unwrap();
     assert!(outputs(&shown.replacen("beta 2", "beta 3", 1), &place).is_err() && outputs(&shown.replacen("03-example-1", "no-such", 1), &place).is_err());
+    let shown = one_pair(&manual(), "tools/terms show --bits");
+    outputs(&shown, &place).unwrap();
+    assert!(outputs(&shown.replacen("1110 10 110", "1110 110 10", 1), &place).is_err());
 }

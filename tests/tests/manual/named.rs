@@ -1,5 +1,5 @@
 //! Names and numbers of the manual, held against the header, the Rust crate, the code and the definitions.
-use crate::{c_enum, manual, need, number, read, same, table, Checked};
+use crate::{c_enum, manual, need, number, one, read, same, table, tables_with, Checked};
 use glow_tests::markdown::{links, quoted, tables, Table};
 use glow_tests::process::root;
 use std::path::Path;
@@ -7,16 +7,18 @@ use std::path::Path;
 /// 32768 as 32,768.
 fn grouped(n: usize) -> String { if n < 1000 { n.to_string() } else { format!("{},{:03}", grouped(n / 1000), n % 1000) } }
 
-/// A table of numbers and names of the header, which has exactly these, in this order.
+/// A table of numbers and names of the header: the one with names of this enum, which has exactly these, in this order.
 pub fn header_table(text: &str, head: &str, name: &str) -> Checked {
-    let rows = table(text, &[head, "name"])?.rows;
+    let right: Vec<(String, usize)> = c_enum(name).into_iter().filter(|(name, _)| name != "GLOW_REPORT_LEN").collect();
+    let of_the_enum = |row: &Vec<String>| right.iter().any(|(name, _)| quoted(&row[1]).contains(name));
+    let rows = one(tables_with(text, &[head, "name"])?.into_iter().filter(|t| t.rows.iter().any(of_the_enum)).collect(), name)?.rows;
     let shown: Vec<(String, usize)> = rows.iter().map(|row| Ok((quoted(&row[1]).concat(), number(&row[0])?))).collect::<Result<_, String>>()?;
-    same(name, shown, c_enum(name).into_iter().filter(|(name, _)| name != "GLOW_REPORT_LEN").collect())?;
+    same(name, shown, right)?;
     Ok(rows.len())
 }
 
 pub fn constants(text: &str) -> Checked {
-    let rows = table(text, &["what", "in C", "in Rust", "number"])?.rows;
+    let rows: Vec<Vec<String>> = tables_with(text, &["what", "in C", "in Rust", "number"])?.into_iter().flat_map(|table| table.rows).collect();
     let header = read("embed/glow.h");
     for row in &rows {
         let (c, rust, n) = (quoted(&row[1]).concat(), quoted(&row[2]).concat(), number(&row[3])?);
@@ -26,6 +28,10 @@ pub fn constants(text: &str) -> Checked {
             "MOST_STACK_NEEDED" => glow::MOST_STACK_NEEDED,
             "MOST_COUNTED" => glow::MOST_COUNTED,
             "MOST_NODES_IN_A_FILE" => glow::MOST_NODES_IN_A_FILE,
+            "STACK_FOR_AN_EXCHANGE" => glow::STACK_FOR_AN_EXCHANGE,
+            "EXCHANGE_REPORT_LEN" => glow::EXCHANGE_REPORT_LEN,
+            "MOST_IMPORTED" => glow::MOST_IMPORTED,
+            "MOST_EXPORTED" => glow::MOST_EXPORTED,
             _ => return Err(format!("{rust} is no constant")),
         };
         same(&rust, n, right)?;
@@ -69,6 +75,12 @@ pub fn sentences(text: &str) -> Checked {
         format!("fewer than {} elements the status is 4", glow::REPORT_LEN),
         format!("at most {} + {} · min(C, N / 4) bytes", grouped(glow::STACK_FOR_A_CALL), glow::STACK_FOR_A_LEVEL),
         format!("With the program's stores this is {} bytes.", grouped(glow::Stores::glow().stack_needed())),
+        format!("as the bits may be any bytes; above {} it is refused.", grouped(free)),
+        format!("| 2, where f is above {}; 14 and 16,", grouped(free)),
+        format!("a node beyond the {}th, or a free name that is not below f", grouped(most)),
+        format!("a node has {} nodes before it", grouped(most)),
+        format!("f is at most {}, and they are the packed bits of a term with free names below f and at most {} nodes", grouped(free), grouped(most)),
+        format!("the report array has fewer than {} elements |\n\nAt status 0 and 3", glow::EXCHANGE_REPORT_LEN),
     ];
     for sentence in &right { need(text.contains(sentence), || format!("the manual does not say: {sentence}"))?; }
     Ok(right.len())
@@ -97,11 +109,13 @@ pub fn arrays(text: &str) -> Checked {
 #[test]
 fn names_and_numbers() {
     let text = manual();
-    assert_eq!((header_table(&text, "status", "glow_status"), header_table(&text, "element", "glow_report")), (Ok(5), Ok(12)));
-    assert_eq!((constants(&text), sentences(&text), arrays(&text)), (Ok(5), Ok(17), Ok(5)));
+    assert_eq!((header_table(&text, "status", "glow_status"), header_table(&text, "status", "glow_exchange_status")), (Ok(5), Ok(3)));
+    assert_eq!(header_table(&text, "element", "glow_report"), Ok(12));
+    assert_eq!((constants(&text), sentences(&text), arrays(&text)), (Ok(9), Ok(23), Ok(5)));
     assert_eq!(lent().len(), 9);
     let megabytes = |bytes: usize| format!("{:.1} MB", bytes as f64 / 1e6);
-    let stack = format!("up to {} of stack with the program's stores and {} with the largest", megabytes(glow::Stores::glow().stack_needed()), megabytes(glow::MOST_STACK_NEEDED));
+    let stack = [glow::Stores::glow().stack_needed(), glow::MOST_STACK_NEEDED, glow::STACK_FOR_AN_EXCHANGE].map(megabytes);
+    let stack = format!("up to {} of stack with the program's stores and {} with the largest, an import or an export up to {}:", stack[0], stack[1], stack[2]);
     assert!(read("README.md").contains(&stack), "{stack}");
 }
 
@@ -127,7 +141,7 @@ pub fn promises(text: &str) -> Checked {
 
 #[test]
 fn each_promise() {
-    assert_eq!(promises(&manual()), Ok(3));
+    assert_eq!(promises(&manual()), Ok(5));
     assert!(fields(&root().join("crates/evaluator/specs/Promise.antt"), "Called").len() >= 15);
 }
 

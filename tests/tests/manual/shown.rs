@@ -20,7 +20,7 @@ impl Place {
     /// The command with the program, the library and the directory of this test in the places of the user's.
     fn placed(&self, command: &str) -> String {
         let dir = self.0.display();
-        command.replace("/tmp/example", &format!("'{dir}/example'")).replace("target/lib/libglow.a", &format!("'{}'", archive().display())).replace("tools/glow", &format!("sh '{dir}/glow'"))
+        command.replace("/tmp/", &format!("'{dir}'/")).replace("target/lib/libglow.a", &format!("'{}'", archive().display())).replace("tools/glow", &format!("sh '{dir}/glow'"))
     }
     fn prints(&self, command: &str) -> Result<String, String> {
         let cargo = Path::new(env!("CARGO")).parent().unwrap().display();

@@ -1,6 +1,8 @@
-//! The manual's refusals, worked runs and worked file, each tried.
+//! The manual's refusals, worked runs, worked imports and worked file, each tried.
 use crate::{c_enum, manual, need, number, read, same, table, Checked};
+use glow_tests::binary::fitted;
 use glow_tests::case::{told, Case};
+use glow_tests::exchange::{check_wrapper, Exchange, Given};
 use glow_tests::flat::from_text;
 use glow_tests::machine::{evaluate_watched, Answer, Lengths, Outcome, Step, GLOW_BUDGET};
 use glow_tests::markdown::quoted;
@@ -14,10 +16,19 @@ fn rattle_case(path: &str, n: usize) -> Option<String> {
 }
 
 fn right_names(n: usize) -> [String; 3] {
-    let rattle = rattle_case(if n < 8 { "crates/termfile/src/lib.rt" } else { "crates/stepping/src/lib.rt" }, n).expect("a case");
+    let (source, rust) = match n {
+        1..=7 => ("crates/termfile/src/lib.rt", format!("{:?}", glow::FileRefusal::of(n as u64).unwrap())),
+        8..=13 => ("crates/stepping/src/lib.rt", format!("{:?}", glow::Refusal::of(n as u64).unwrap())),
+        _ => ("crates/binary/src/lib.rt", format!("{:?}", glow::ExchangeRefusal::of(n as u64).unwrap())),
+    };
     let c = c_enum("glow_refusal").into_iter().find(|(_, k)| *k == n).expect("a constant").0;
-    let rust = if n < 8 { format!("{:?}", glow::FileRefusal::of(n as u64).unwrap()) } else { format!("{:?}", glow::Refusal::of(n as u64).unwrap()) };
-    [rattle, c, rust]
+    [rattle_case(source, n).expect("a case"), c, rust]
+}
+
+/// Bytes in hexadecimal, which stand in backquotes.
+fn hexadecimal(cell: &str) -> Result<Vec<u8>, String> {
+    let bytes = quoted(cell).concat();
+    bytes.split_whitespace().map(|b| u8::from_str_radix(b, 16)).collect::<Result<_, _>>().map_err(|why| format!("{bytes}: {why}"))
 }
 
 /// `cells 0`: glow's budget and stores, but for what is said.
@@ -48,20 +59,23 @@ fn answered(file: &[u8], budget: u32, l: Lengths) -> Result<Answer, String> {
     Ok(answer)
 }
 
-/// 1 to 7: bytes in hexadecimal, through the library and the program.
+/// 1 to 7: bytes in hexadecimal, through the library, to be evaluated and to be exported, and through the program.
 fn refused_file(n: usize, example: &str) -> Result<(), String> {
-    let bytes = quoted(example).concat();
-    let file: Vec<u8> = bytes.split_whitespace().map(|b| u8::from_str_radix(b, 16)).collect::<Result<_, _>>().map_err(|why| format!("{bytes}: {why}"))?;
+    let file = hexadecimal(example)?;
     same(example, answered(&file, GLOW_BUDGET, Lengths::glow())?, Answer::FileRefused(n as u8))?;
+    same(example, Given::File(&file).check(), Err(n as u8))?;
     let ended = run(Command::new(program()).stdin(file_of(&file)));
     same(example, ended.out.concat(), format!("refused {n}\n").into_bytes())
 }
+
+/// `f = 1`.
+fn stated(f: &str) -> Result<usize, String> { number(f.strip_prefix("f = ").ok_or(format!("{f:?} does not tell f"))?) }
 
 /// 8 to 12: a term, f and the length of a store, through the library.
 fn refused_run(n: usize, example: &str) -> Result<(), String> {
     let parts: Vec<&str> = example.split(',').map(str::trim).collect();
     let [term, f, store] = parts[..] else { return Err(format!("{example}: not a term, f and a store")) };
-    let f = number(f.strip_prefix("f = ").ok_or(format!("{f:?} does not tell f"))?)?;
+    let f = stated(f)?;
     let (budget, l) = calling(&[store])?;
     match answered(&from_text(f, &quoted(term).concat()).file(), budget, l)? {
         Answer::Ran(run) => same(example, run.outcome, Outcome::Refused(n as u8)),
@@ -69,11 +83,31 @@ fn refused_run(n: usize, example: &str) -> Result<(), String> {
     }
 }
 
+/// The bytes that an import writes, or its refusal: by the second implementation, and the same by the library, through the wrapper.
+fn imported(bits: &[u8], f: usize, room: usize) -> Result<Result<usize, u8>, String> {
+    let given = Given::Bits(bits, u32::try_from(f).map_err(|why| format!("f = {f}: {why}"))?);
+    let answer = given.check();
+    check_wrapper(given, &answer);
+    Exchange::new(given, room).check_against(&answer);
+    Ok(fitted(&answer, room).map(<[u8]>::len))
+}
+
+/// 14 to 16: bits in hexadecimal and f, through the library.
+fn refused_bits(n: usize, example: &str) -> Result<(), String> {
+    let (bits, f) = example.split_once(", ").ok_or(format!("{example}: not bits and f"))?;
+    same(example, imported(&hexadecimal(bits)?, stated(f)?, 64)?, Err(n as u8))
+}
+
 pub fn refusals(text: &str) -> Checked {
     let rows = table(text, &["number", "condition", "example", "Rattle", "C", "Rust"])?.rows;
     for (row, n) in rows.iter().zip(1..) {
         same("the refusals", number(&row[0])?, n)?;
-        match n { 1..=7 => refused_file(n, &row[2])?, 8..=12 => refused_run(n, &row[2])?, _ => need(row[2].starts_with("none"), || row[2].clone())? }
+        match n {
+            1..=7 => refused_file(n, &row[2])?,
+            8..=12 => refused_run(n, &row[2])?,
+            13 => need(row[2].starts_with("none"), || row[2].clone())?,
+            _ => refused_bits(n, &row[2])?,
+        }
         same(&format!("refusal {n}"), [&row[3], &row[4], &row[5]].map(|cell| quoted(cell).concat()), right_names(n))?;
     }
     Ok(rows.len())
@@ -81,9 +115,31 @@ pub fn refusals(text: &str) -> Checked {
 
 #[test]
 fn each_refusal() {
-    assert_eq!(refusals(&manual()), Ok(13));
-    // with 14 to 16, which a run does not give
+    assert_eq!(refusals(&manual()), Ok(16));
     assert_eq!(c_enum("glow_refusal").len(), 16);
+}
+
+const IMPORTS: [&str; 5] = ["bits", "f", "output", "answer", "why"];
+
+/// The imports: bits in hexadecimal, or none, f, and the length of the output, through the library.
+pub fn worked_imports(text: &str) -> Checked {
+    let rows = table(text, &IMPORTS)?.rows;
+    for row in &rows {
+        let bits = hexadecimal(&row[0])?;
+        need(bits.is_empty() == (row[0] == "none"), || format!("{:?} are not bits", row[0]))?;
+        let told = match imported(&bits, number(&row[1])?, number(&row[2])?)? { Ok(n) => format!("written {n}"), Err(n) => format!("refused {n}") };
+        same(&format!("import of {}, f = {}", row[0], row[1]), &row[3], &told)?;
+    }
+    Ok(rows.len())
+}
+
+#[test]
+fn each_worked_import() {
+    let text = manual();
+    assert!(worked_imports(&text).unwrap() >= 10);
+    // each answer that an import can give is in the table
+    let answers: Vec<String> = table(&text, &IMPORTS).unwrap().rows.into_iter().map(|row| row[3].clone()).collect();
+    for n in [2, 12, 14, 15, 16] { assert!(answers.contains(&format!("refused {n}")), "no import is refused by {n}"); }
 }
 
 /// The outcome as the table has it: normal `v0`, spent, refused 9.
