@@ -4,7 +4,10 @@
 // is spent, 2 the run is refused, 3 the file is refused, 4 the report array has fewer than 12 elements.
 // The report array then begins with: the refusal's number or 0, the nodes written or 0, the steps beta,
 // subst, enter, leave-fun and leave-inert, the nodes, cells and names taken, and the allowances for
-// substs and shifts. Where the file is refused only the number is written.
+// substs and shifts. Where the file is refused only the number is written. `exchange` has import and
+// export.
+mod exchange;
+
 use evaluator::Answer;
 use evaluator::Outcome;
 use evaluator::Report;
