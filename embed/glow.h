@@ -91,7 +91,7 @@ uint32_t glow_evaluate(
 
    The two functions do not call themselves, and take at most GLOW_STACK_FOR_AN_EXCHANGE bytes of stack. As above no
    two arrays may overlap, and where a length is 0 the pointer may be anything. */
-#define GLOW_STACK_FOR_AN_EXCHANGE 163840
+#define GLOW_STACK_FOR_AN_EXCHANGE 172032
 #define GLOW_MOST_IMPORTED 49156        /* bytes that an import writes at most: 4 + 3 GLOW_MOST_FILE_NODES */
 #define GLOW_MOST_EXPORTED 16781312     /* bytes that an export writes at most */
 

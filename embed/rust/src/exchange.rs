@@ -13,7 +13,7 @@ pub const MOST_IMPORTED: usize = 4 + 3 * MOST_NODES_IN_A_FILE;
 /// The most bytes that an export writes: of an abstraction over 8,192 variables, each the last of 16,384 free names.
 pub const MOST_EXPORTED: usize = 16_781_312;
 /// The most bytes of stack that an import or an export takes. Neither calls itself.
-pub const STACK_FOR_AN_EXCHANGE: usize = 163_840;
+pub const STACK_FOR_AN_EXCHANGE: usize = 172_032;
 
 mod ffi {
     extern "C" {

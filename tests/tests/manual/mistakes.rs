@@ -47,7 +47,7 @@ fn mistakes_are_found_out() {
     found_out(|text| header_table(text, "status", "glow_exchange_status"), "| 3 | `GLOW_EXCHANGE_REFUSED` |", "| 2 | `GLOW_EXCHANGE_REFUSED` |");
     found_out(|text| header_table(text, "status", "glow_status"), "| 3 | `GLOW_FILE_REFUSED` |", "| 3 | `GLOW_EXCHANGE_REFUSED` |");
     found_out(constants, "106,496 |", "106,497 |");
-    found_out(constants, "163,840 |", "163,480 |");
+    found_out(constants, "172,032 |", "170,232 |");
     found_out(constants, "`GLOW_MOST_EXPORTED` |", "`GLOW_MOST_IMPORTED` |");
     found_out(sentences, "2,072,576", "2,072,577");
     found_out(sentences, "| name store | 32,768 |", "| name store | 16,384 |");
