@@ -3,9 +3,9 @@
 use Prim.Native.Nat.{ℕ}
 use mathlib.Core.Path.{_≡_, refl}
 use mathlib.Core.List.{List, [], _∷_}
-use Rattle.binary.specs.Answer.{Result, number, bytes, imported, exported}
+use Rattle.binary.specs.Answer.{Result, number, bytes, imported}
 
--- what importing the bits s with f free names gives, and, where that is a file, what exporting the file gives
+-- bits, a count of free names, and what importing them gives
 pub record Row : Type 0 where
   pub free : ℕ
   pub given : List ℕ

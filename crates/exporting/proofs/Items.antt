@@ -9,8 +9,8 @@ use native.Mathlib.Omega.{arith}
 use lib.Dec.{eqb, ltb}
 use lib.ListN.{length, getD, set}
 use lib.Seq.{getD-set-other}
-use borrow.Author.Tests.{eqb-true, ne-eqb, ltb-true, ltb-false, lt-ltb, le-ltb}
-use Rattle.fireball.specs.Term.{Term, free, bound}
+use borrow.Author.Tests.{eqb-true, ne-eqb, ltb-true, le-ltb}
+use Rattle.fireball.specs.Term.{free, bound}
 use Rattle.termfile.specs.Code.{Code, var, abstractions, numbered, member, scoped}
 use Rattle.termfile.specs.Meaning.{outward, meaning}
 use Rattle.termfile.specs.Nodes.{Node, write}

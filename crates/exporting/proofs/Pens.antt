@@ -5,11 +5,11 @@ use Prim.Native.Nat.{ℕ, zero, suc, _+_, _-_, _*_, _/_, _%_, _^_, _≤_, _<_}
 use mathlib.Core.Path.{_≡_, refl, sym, ap, ap₂, _∙_, subst, subst⁻¹}
 use mathlib.Core.Bool.{Bool, true, false}
 use mathlib.Core.List.{List, [], _∷_, _++_, append-assoc, append-nil}
-use native.Mathlib.Nat.{pow-suc, mul-assoc, mul-comm}
+use native.Mathlib.Nat.{pow-suc, mul-assoc}
 use native.Mathlib.Omega.{arith}
 use native.Mathlib.Numerals.{add-one}
-use lib.Dec.{eqb, ltb}
-use lib.ListN.{length, getD, take, drop, set, replicate, length-append, length-set, length-replicate, take-append-drop}
+use lib.Dec.{eqb}
+use lib.ListN.{length, take, drop, set, replicate, length-append, length-set, length-replicate, take-append-drop}
 use lib.Pow.{pow-mono, shl-lt, shr-shr}
 use lib.Seq.{take-suc-set, drop-set-lt, drop-drop, length-take-le}
 use borrow.Author.Tests.{lt-ltb}
@@ -18,7 +18,7 @@ use Rattle.termfile.specs.Output.{overlay}
 use Rattle.binary.specs.Bits.{lowBits, bitsIn, index, pack}
 use Rattle.binary.specs.Answer.{zeros, padding}
 use Rattle.binary.proofs.Packing.{pack-unique}
-use Rattle.exporting.specs.Putting.{Put, Room, Moved, Puts}
+use Rattle.exporting.specs.Putting.{Put, Puts}
 use Rattle.exporting.specs.declared.putting.Pen.{Pen}
 
 -- Bits of a byte

@@ -9,7 +9,7 @@ use lib.Dec.{eqb, ltb}
 use lib.ListN.{length, getD, take, drop, set, length-append, length-set}
 use lib.Seq.{take-set-le, getD-set-same}
 use borrow.Author.Tests.{eqb-true, lt-ltb}
-use Rattle.termfile.specs.Code.{Code, var, abs, app, size, abstractions, numbered, scoped}
+use Rattle.termfile.specs.Code.{Code, var, abs, app, abstractions, numbered, scoped}
 use Rattle.termfile.specs.Meaning.{meaning, termOf}
 use Rattle.termfile.specs.Nodes.{Node, write}
 use Rattle.termfile.specs.File.{tags, arguments, nodes}

@@ -8,9 +8,9 @@ use native.Mathlib.Omega.{arith}
 use native.Mathlib.Numerals.{add-one}
 use lib.ListN.{length, getD, take, drop}
 use lib.Seq.{take-suc, take-all, length-take-le}
-use Rattle.termfile.specs.Code.{Code, var, abs, app, size, abstractions, numbered, scoped}
-use Rattle.termfile.specs.Meaning.{meaning, termOf}
-use Rattle.termfile.specs.Nodes.{Node, write}
+use Rattle.termfile.specs.Code.{Code, var, abs, app}
+use Rattle.termfile.specs.Meaning.{termOf}
+use Rattle.termfile.specs.Nodes.{write}
 use Rattle.termfile.specs.File.{tags, nodes}
 use Rattle.termfile.specs.Passes.{Framed}
 use Rattle.termfile.proofs.Bytes as bytes

@@ -1,8 +1,8 @@
 // The pass over the nodes that counts the bits, and finds the index of each variable.
 use termfile::word;
 ghost use mathlib.Core.Path.{_≡_};
-ghost use Prim.Native.Nat.{ℕ, _+_, _-_, _≤_, _<_};
-ghost use lib.ListN.{length, getD, set};
+ghost use Prim.Native.Nat.{_+_, _-_, _≤_, _<_};
+ghost use lib.ListN.{length, set};
 ghost use Rattle.termfile.specs.Code.{Code};
 ghost use Rattle.exporting.specs.Tokens.{Coded};
 ghost use Rattle.exporting.specs.Measuring.{indexOf, passedVariable, passedAbstraction, passedApplication, Small, Indexable, Measurable, Measures};

@@ -1,13 +1,12 @@
 -- What import answers, by how scanning ends.
 -- Assumes nothing.
 use Prim.Native.Nat.{ℕ, _+_, _*_, _≤_, _<_}
-use mathlib.Core.Path.{_≡_, sym, ap, ap₂, _∙_}
-use mathlib.Core.Bool.{Bool, true, false, cond}
-use mathlib.Core.List.{List, _++_, map}
+use mathlib.Core.Path.{_≡_, ap, ap₂, _∙_}
+use mathlib.Core.Bool.{true, false, cond}
+use mathlib.Core.List.{List, _++_}
 use native.Mathlib.Omega.{arith}
 use lib.ListN.{length, take, length-map, length-take}
 use borrow.Author.Tests.{le-leb, lt-leb}
-use Rattle.termfile.specs.Nodes.{Node}
 use Rattle.termfile.specs.File.{maxFree}
 use Rattle.termfile.specs.Canonical.{wordBytes, wordsBytes, canonical, fileOf}
 use Rattle.termfile.proofs.Bytes.{length-fileOf}

@@ -2,10 +2,9 @@
 -- Assumes nothing.
 use Prim.Native.Nat.{ℕ, zero, suc, _+_, _-_, _*_, _≤_, _<_}
 use mathlib.Core.Path.{_≡_, refl, sym, ap}
-use mathlib.Core.Bool.{_&&_, true, false}
-use mathlib.Core.List.{List, _++_}
+use mathlib.Core.Bool.{_&&_, false}
+use mathlib.Core.List.{List}
 use native.Mathlib.Omega.{arith}
-use lib.Dec.{ltb}
 use lib.ListN.{length, drop, length-append, length-drop}
 use borrow.Author.Tests.{lt-ltb, le-ltb}
 use Rattle.binary.specs.Bits.{lowBits, bitsIn}

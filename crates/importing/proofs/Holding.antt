@@ -1,25 +1,21 @@
 -- What reading a node does to the arrays that hold the nodes so far. The idea: a node is put behind the others, a name or an open application
 -- on top of a stack, and when a left part ends, its application is the top of the open ones, so that one store gives it the part's size.
 -- Assumes nothing.
-use Prim.Native.Nat.{ℕ, zero, suc, _+_, _-_, _≤_, _<_}
-use mathlib.Core.Path.{_≡_, refl, sym, ap, _∙_, subst, subst⁻¹}
-use mathlib.Core.Bool.{Bool, true, false, cond}
+use Prim.Native.Nat.{ℕ, suc, _+_, _-_, _≤_, _<_}
+use mathlib.Core.Path.{_≡_, refl, sym, ap, _∙_}
 use mathlib.Core.List.{List, [], _∷_, _++_, map, map-append, append-assoc}
 use native.Mathlib.Omega.{arith}
 use native.Mathlib.Numerals.{add-one}
-use lib.Dec.{ltb}
-use lib.ListN.{length, getD, take, set, length-append, length-map}
-use lib.Seq.{take-suc-set, getD-set-same, getD-set-other}
-use borrow.Author.Tests.{ltb-true, ltb-false}
+use lib.ListN.{length, take, set, length-append}
+use lib.Seq.{take-suc-set}
 use Rattle.fireball.specs.Term.{Term, free, bound, lam, app, size}
-use Rattle.termfile.specs.Nodes.{Node, write}
+use Rattle.termfile.specs.Nodes.{Node}
 use Rattle.termfile.specs.Canonical.{binders, naming, canonical}
 use Rattle.termfile.proofs.Naming.{naming-size}
 use Rattle.termfile.proofs.Reading.{length-write}
 use Rattle.binary.specs.Stacks.{Stacked}
-use Rattle.binary.specs.Reading.{Place, whole, body, left, right, depth, Next, done, part, ended, variable}
+use Rattle.binary.specs.Reading.{Place, whole, body, left, right, depth, Next, done, part, ended}
 use Rattle.importing.specs.Holding.{nextName, around, nodesOf, nodesTo, openAt}
-use Rattle.importing.specs.declared.placing.Spot.{Spot}
 
 -- Nodes
 

@@ -1,6 +1,6 @@
 -- What the four functions that put nodes leave in the arrays: from one place to the next.
 -- Assumes nothing.
-use Prim.Native.Nat.{ℕ, suc, _+_, _-_, _≤_, _<_}
+use Prim.Native.Nat.{ℕ, suc, _+_, _-_, _≤_}
 use mathlib.Core.Path.{_≡_, refl, sym, ap, _∙_, subst}
 use mathlib.Core.Bool.{Bool, true, false, cond}
 use mathlib.Core.List.{List, [], _∷_, _++_, map, map-append}
@@ -10,9 +10,9 @@ use lib.ListN.{length, getD, take, set, length-append, length-map}
 use lib.Seq.{take-set-lt, getD-take, getD-at, set-at}
 use borrow.Author.Tests.{ltb-true}
 use Rattle.fireball.specs.Term.{Term, free, bound, size}
-use Rattle.termfile.specs.Nodes.{Node, write}
-use Rattle.termfile.specs.Canonical.{binders, naming}
-use Rattle.binary.specs.Reading.{Place, body, left, right, depth, part, ended, variable}
+use Rattle.termfile.specs.Nodes.{Node}
+use Rattle.termfile.specs.Canonical.{binders}
+use Rattle.binary.specs.Reading.{Place, body, left, depth, part, ended, variable}
 use Rattle.binary.specs.Stacks.{Stacked}
 use Rattle.binary.proofs.Stacks.{stacked-push, stacked-at}
 use Rattle.importing.specs.Holding.{nextName, around, nodesOf, nodesTo, openAt, Before, After, Ready, nameOf, Closable}

@@ -4,18 +4,17 @@
 use Prim.Native.Nat.{ℕ, suc, _+_, _-_, _*_, _≤_, _<_}
 use mathlib.Core.Path.{_≡_, refl, sym, ap, _∙_, subst}
 use mathlib.Core.Bool.{Bool, true, false, cond, _&&_}
-use mathlib.Core.List.{List, [], _∷_, _++_, map}
+use mathlib.Core.List.{List, _∷_, map}
 use native.Mathlib.Omega.{arith}
 use lib.Dec.{ltb}
 use lib.ListN.{length, length-append}
 use borrow.Author.Tests.{lt-ltb, le-ltb}
 use Rattle.fireball.specs.Term.{free, bound, size}
 use Rattle.termfile.specs.File.{maxFree, maxNodes}
-use Rattle.binary.specs.Bits.{bitsIn}
 use Rattle.binary.specs.Reading.{Place, whole, body, left, depth, Next, done, part, ended, variable, nothing, Reading, unread, within, onward, reading}
 use Rattle.binary.proofs.Packing.{length-bitsIn}
 use Rattle.importing.specs.Ahead.{ahead, Sound, nodeRead, NodeAt}
-use Rattle.importing.specs.Holding.{around, nodesOf, nodesTo, openAt, Before, After, Ready, Closable}
+use Rattle.importing.specs.Holding.{nodesOf, nodesTo, Before, After, Ready, Closable}
 use Rattle.importing.specs.Scanning.{Roomy, readingOf, ReadTo}
 use Rattle.importing.proofs.Indices.{far-refused}
 use Rattle.importing.proofs.Holding.{around-depth, nodes-size, nodes-few, Ends, ended-is}

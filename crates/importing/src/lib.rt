@@ -22,7 +22,6 @@ use padding::is_padding;
 use scanning::Scanned;
 use scanning::scan;
 use writing::write_file;
-ghost use mathlib.Core.Path.{_≡_};
 ghost use Prim.Native.Nat.{_≤_};
 ghost use lib.ListN.{length};
 ghost use Rattle.termfile.specs.File.{maxFree};

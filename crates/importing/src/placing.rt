@@ -4,7 +4,7 @@
 ghost use mathlib.Core.Path.{_≡_};
 ghost use mathlib.Core.List.{List};
 ghost use Prim.Native.Nat.{ℕ, _+_, _-_, _≤_, _<_};
-ghost use lib.ListN.{length, getD};
+ghost use lib.ListN.{length};
 ghost use Rattle.fireball.specs.Term.{Term};
 ghost use Rattle.binary.specs.Reading.{Place, body, left, part, ended, variable};
 ghost use Rattle.importing.specs.Holding.{Before, After, Ready, Closable, nameOf};

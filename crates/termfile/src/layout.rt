@@ -1,4 +1,5 @@
 // Where a term file's numbers stand: f at byte 0, n at byte 2, then n tag bytes, then n arguments.
+use crate::word;
 ghost use mathlib.Core.Path.{_≡_};
 ghost use Prim.Native.Nat.{_+_, _<_};
 ghost use lib.ListN.{length, getD};
@@ -10,7 +11,7 @@ pub fn word_at(file: &[u8], at: usize) -> usize
     requires { ⌜ at + 1 < length (now file) ⌝ }
     ensures { λ r. ⌜ r ≡ word (getD (now (file .entry)) at 0) (getD (now (file .entry)) (at + 1) 0) ⌝ }
 {
-    (file[at] as usize) + 256 * (file[at + 1] as usize)
+    word(file[at], file[at + 1])
 }
 
 // The tag of node i.

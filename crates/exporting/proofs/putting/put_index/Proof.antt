@@ -6,7 +6,6 @@ use mathlib.Core.Bool.{true, false}
 use mathlib.Core.List.{[], _∷_, _++_}
 use native.Mathlib.Omega.{arith}
 use lib.ListN.{length, replicate, length-replicate}
-use borrow.Author.Needs.{needs}
 use Rattle.exporting.specs.Putting.{Puts}
 use Rattle.exporting.proofs.Pens.{puts-none, puts-then, puts-as, ones-snoc, index-ones}
 use Rattle.exporting.proofs.putting.put_index.Statement.{statement}

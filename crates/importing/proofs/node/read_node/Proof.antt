@@ -1,6 +1,6 @@
 -- `node::read_node` meets its contract: a one begins an index, and two bits tell an abstraction from an application.
 -- Assumes nothing.
-use mathlib.Core.Path.{refl, ap, _∙_, subst}
+use mathlib.Core.Path.{ap, _∙_, subst}
 use native.Mathlib.Omega.{arith}
 use mathlib.Core.Bool.{false}
 use mathlib.Core.List.{_∷_}

@@ -1,8 +1,5 @@
 -- `placing::put_variable` meets its contract: a node behind the others, with the name that the index stands for.
 -- Assumes nothing.
-use mathlib.Core.Path.{sym, ap, subst}
-use lib.ListN.{set}
-use Rattle.importing.specs.Holding.{After}
 use Rattle.importing.proofs.Places.{after-variable}
 use borrow.Author.Needs.{needs}
 use Rattle.importing.proofs.placing.put_variable.Statement.{statement}
