@@ -2,10 +2,10 @@
 -- the term does there, with as many nodes read more as the term has. Its indices are below the abstractions around it, its names below f,
 -- and its nodes within the limit, so no test on the way refuses.
 -- Assumes nothing.
-use Prim.Native.Nat.{ℕ, zero, suc, _+_, _≤_, _<_}
-use mathlib.Core.Path.{_≡_, refl, ap, _∙_}
-use mathlib.Core.Bool.{Bool, _&&_}
-use mathlib.Core.List.{List, _++_, append-assoc}
+use Prim.Native.Nat.{ℕ, suc, _+_, _≤_, _<_}
+use mathlib.Core.Path.{_≡_, ap, _∙_}
+use mathlib.Core.Bool.{Bool, false, _&&_}
+use mathlib.Core.List.{List, _∷_, _++_, append-assoc}
 use native.Mathlib.Numerals.{add-one}
 use native.Mathlib.Omega.{arith}
 use lib.Dec.{ltb}
@@ -13,7 +13,8 @@ use borrow.Author.Tests.{lt-ltb, le-ltb}
 use Rattle.fireball.specs.Term.{Term, free, bound, lam, app, LooseBelow, Whole, NamesBelow, size}
 use Rattle.termfile.specs.File.{maxNodes}
 use Rattle.binary.specs.Bits.{index, bits}
-use Rattle.binary.specs.Reading.{Place, whole, body, left, right, depth, ended, variable, nothing, ones, Reading, read, within, onward, reading}
+use Rattle.binary.specs.Reading.{Place, whole, body, left, right, depth, ended, variable, nothing, Reading, read, within, onward, reading}
+use Rattle.binary.proofs.Ones.{index-append, ones-read}
 
 -- A variable
 
@@ -23,14 +24,8 @@ at-index f p n bs k =
     within (ltb n maxNodes && ltb k (depth p + f))
     (onward (ended p (variable (depth p) k)) bs (λ q. reading f nothing q (suc n) bs))
 
--- behind j + 1 ones
-reading-ones : (f : ℕ) (p : Place) (n : ℕ) (bs : List Bool) (j k : ℕ) → reading f (ones j) p n (index k ++ bs) ≡ at-index f p n bs (suc (j + k))
-reading-ones f p n bs j zero = ap (at-index f p n bs) (omega arith)
-reading-ones f p n bs j (suc k) = reading-ones f p n bs (suc j) k ∙ ap (at-index f p n bs) (omega arith)
-
 pub reading-index : (f : ℕ) (p : Place) (n : ℕ) (bs : List Bool) (k : ℕ) → reading f nothing p n (index k ++ bs) ≡ at-index f p n bs k
-reading-index f p n bs zero = refl
-reading-index f p n bs (suc k) = reading-ones f p n bs 0 k ∙ ap (at-index f p n bs) (omega arith)
+reading-index f p n bs k = ap (reading f nothing p n) (index-append k bs) ∙ ones-read f p n k (false ∷ bs)
 
 variable-bound : (m k : ℕ) → k < m → variable m k ≡ bound k
 variable-bound m k h = rw (lt-ltb k m h)

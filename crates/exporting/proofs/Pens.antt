@@ -18,6 +18,7 @@ use Rattle.termfile.specs.Output.{overlay}
 use Rattle.binary.specs.Bits.{lowBits, bitsIn, index, pack}
 use Rattle.binary.specs.Answer.{zeros, padding}
 use Rattle.binary.proofs.Packing.{pack-unique}
+use Rattle.binary.proofs.Ones.{index-append}
 use Rattle.exporting.specs.Putting.{Put, Puts}
 use Rattle.exporting.specs.declared.putting.Pen.{Pen}
 
@@ -162,10 +163,7 @@ ones-snoc (suc i) =
     ap (λ l. true ∷ l) (ones-snoc i) ∙ ap (λ k. replicate k true) e
 
 pub index-ones : (k : ℕ) → replicate (k + 1) true ++ (false ∷ []) ≡ index k
-index-ones zero = refl
-index-ones (suc k) =
-    let e : suc k + 1 ≡ suc (k + 1) = omega arith in
-    ap (λ j. replicate j true ++ (false ∷ [])) e ∙ ap (λ l. true ∷ l) (index-ones k)
+index-ones k = ap (λ j. replicate j true ++ (false ∷ [])) (add-one k) ∙ sym (index-append k []) ∙ append-nil (index k)
 
 -- The end
 

@@ -13,10 +13,10 @@ use Rattle.fireball.specs.Term.{free, bound, size}
 use Rattle.termfile.specs.File.{maxFree, maxNodes}
 use Rattle.binary.specs.Reading.{Place, whole, body, left, depth, Next, done, part, ended, variable, nothing, Reading, unread, within, onward, reading}
 use Rattle.binary.proofs.Packing.{length-bitsIn}
+use Rattle.binary.proofs.Ones.{node-over, index-over}
 use Rattle.importing.specs.Ahead.{ahead, Sound, nodeRead, NodeAt}
 use Rattle.importing.specs.Holding.{nodesOf, nodesTo, Before, After, Ready, Closable}
 use Rattle.importing.specs.Scanning.{Roomy, readingOf, ReadTo}
-use Rattle.importing.proofs.Indices.{far-refused}
 use Rattle.importing.proofs.Holding.{around-depth, nodes-size, nodes-few, Ends, ended-is}
 use Rattle.importing.proofs.Places.{closable}
 use Rattle.importing.specs.declared.cursor.Cursor.{Cursor}
@@ -86,9 +86,6 @@ module _ (f : ℕ) (s : List ℕ) (c : Cursor) (st : Spot) (ts ms xs ys : List �
       }
 
   -- a node beyond the limit
-  and-left : (a b : Bool) → a ≡ false → a && b ≡ false
-  and-left a b e = ap (λ q. q && b) e
-
   pub abstraction-beyond : (d : Cursor) → maxNodes ≤ st .nodes → NodeAt nothing 2 s c (Abstraction d) → readingOf f s ≡ unread 16
   abstraction-beyond d h w =
       node-next (Abstraction d) w
@@ -104,14 +101,11 @@ module _ (f : ℕ) (s : List ℕ) (c : Cursor) (st : Spot) (ts ms xs ys : List �
   behind k d = onward (ended (t .place) (variable (depth (t .place)) k)) (ahead s d) (λ q. reading f nothing q (suc (st .nodes)) (ahead s d))
 
   pub variable-beyond : (k : ℕ) (d : Cursor) → maxNodes ≤ st .nodes → NodeAt nothing 2 s c (Variable k d) → readingOf f s ≡ unread 16
-  unfolding behind
-  variable-beyond k d h w =
-      node-next (Variable k d) w
-      ∙ ap (λ q. within q (behind k d)) (and-left (ltb (st .nodes) maxNodes) (ltb k (depth (t .place) + f)) (le-ltb (st .nodes) maxNodes h))
+  variable-beyond k d h w = node-next (Variable k d) w ∙ node-over f (t .place) (st .nodes) k (ahead s d) h
 
   pub index-beyond : (k : ℕ) (d : Cursor) → st .depth + f ≤ k → NodeAt nothing 2 s c (Variable k d) → readingOf f s ≡ unread 16
   index-beyond k d h w =
-      node-next (Variable k d) w ∙ far-refused f (t .place) (st .nodes) k (ahead s d) (omega (arith, depth-is))
+      node-next (Variable k d) w ∙ index-over f (t .place) (st .nodes) k (ahead s d) (omega (arith, depth-is))
 
   module _ (less : st .nodes < maxNodes) where
     -- a new place with one node more before it
