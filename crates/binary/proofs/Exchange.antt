@@ -15,7 +15,7 @@ use Rattle.termfile.specs.File.{Bytes, maxFree, freeNames, nodeCount, fileTerm,
 use Rattle.termfile.specs.Canonical.{naming, canonical, fileOf}
 use Rattle.termfile.proofs.Reading.{length-write}
 use Rattle.termfile.proofs.Naming.{naming-size}
-use Rattle.termfile.proofs.Bytes.{nodeCount-fileOf}
+use Rattle.termfile.proofs.Bytes.{freeNames-fileOf, nodeCount-fileOf}
 use Rattle.termfile.proofs.Acceptance.{accepted}
 use Rattle.termfile.proofs.Theorems.{Stands, stands-whole, stands-names, stands-canonical, stands-unique, canonical-stands}
 use Rattle.binary.specs.Bits.{bitsIn, bits, pack}
@@ -133,6 +133,9 @@ exchange =
       bits-back = λ f s r b e.
           let p = imported-packs f s r b e in
           rw (p .2) (packs-back (p .1));
+      names-kept = λ f s r b e.
+          let p = imported-packs f s r b e in
+          ap freeNames (p .2) ∙ freeNames-fileOf f (canonical f (p .0));
       accepts = λ f s b. (
         λ i. let p = imported-packs f s (i .0) b (i .1) in (p .0, p .1),
         λ p. (fileOf f (canonical f (p .0)), packs-imported (p .1)),

@@ -1,10 +1,10 @@
 pub mod Packing
-pub mod Answers
 pub mod Ones
 pub mod ReadBack
 pub mod Written
 pub mod Exchange
-pub mod Examples
 pub mod Limits
 pub mod Settled
+pub mod Examples
+pub mod Answers
 pub mod Stacks

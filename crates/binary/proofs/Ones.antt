@@ -1,4 +1,4 @@
--- The ones of an index: reading counts them up to a zero, where it refuses an index or a node that is out of range; without a zero the bits
+-- Bits that repeat, and the ones of an index: reading counts them up to a zero, where it refuses an index or a node that is out of range; without a zero the bits
 -- end inside a term.
 -- Assumes nothing.
 use Prim.Native.Nat.{ℕ, zero, suc, _+_, _≤_}
@@ -6,15 +6,24 @@ use mathlib.Core.Path.{_≡_, refl, ap, _∙_}
 use mathlib.Core.Bool.{Bool, true, false, and-false}
 use mathlib.Core.List.{List, _∷_, _++_}
 use native.Mathlib.Omega.{arith}
-use lib.ListN.{replicate}
+use lib.ListN.{length, replicate}
 use borrow.Author.Tests.{le-ltb}
 use Rattle.termfile.specs.File.{maxNodes}
 use Rattle.binary.specs.Bits.{index}
 use Rattle.binary.specs.Reading.{Place, depth, ones, unread, reading}
 
+-- one more of the same bit, at either end
+pub replicate-snoc : (b : Bool) (n : ℕ) (bs : List Bool) → replicate n b ++ (b ∷ bs) ≡ b ∷ (replicate n b ++ bs)
+replicate-snoc b zero bs = refl
+replicate-snoc b (suc n) bs = ap (λ l. b ∷ l) (replicate-snoc b n bs)
+
 pub index-append : (k : ℕ) (bs : List Bool) → index k ++ bs ≡ true ∷ (replicate k true ++ (false ∷ bs))
 index-append zero bs = refl
 index-append (suc k) bs = ap (λ l. true ∷ l) (index-append k bs)
+
+pub length-index : (k : ℕ) → length (index k) ≡ k + 2
+length-index zero = refl
+length-index (suc k) = omega (arith, length-index k)
 
 module _ (f : ℕ) (p : Place) (n : ℕ) where
   -- ones up to the end

@@ -5,7 +5,7 @@
 use Prim.Native.Nat.{ℕ, zero, suc, _+_, _-_, _*_, _/_, _%_, _^_, _≤_, _<_}
 use mathlib.Core.Path.{_≡_, refl, sym, ap, ap₂, _∙_}
 use mathlib.Core.Bool.{Bool, true, false, and-eq-true-iff, false≢true}
-use mathlib.Core.List.{List, [], _∷_, _++_}
+use mathlib.Core.List.{List, [], _∷_, _++_, append-assoc}
 use native.Mathlib.Nat.{zero-add, suc-add, sub-zero, suc-sub-suc, mul-comm, mul-assoc, zero-div, mul-add-div-right, mod-eq-of-lt, pow-suc}
 use native.Mathlib.Numerals.{one-add}
 use native.Mathlib.Omega.{arith}
@@ -95,10 +95,21 @@ zeros-replicate : (n : ℕ) → zeros (replicate n false) ≡ true
 zeros-replicate zero = refl
 zeros-replicate (suc n) = zeros-replicate n
 
+pub padding-replicate : (n : ℕ) → n < 8 → padding (replicate n false) ≡ true
+padding-replicate n h = rw (zeros-replicate, length-replicate, lt-ltb _ 8 h)
+
 pub spare-padding : (bs : List Bool) → padding (spare bs) ≡ true
-spare-padding bs =
-    let few : 8 * ((length bs + 7) / 8) - length bs < 8 = omega arith in
-    rw (zeros-replicate, length-replicate, lt-ltb _ 8 few)
+spare-padding bs = padding-replicate (8 * ((length bs + 7) / 8) - length bs) (omega arith)
+
+-- Bits of bytes
+
+pub length-lowBits : (n x : ℕ) → length (lowBits n x) ≡ n
+length-lowBits zero x = refl
+length-lowBits (suc n) x = ap suc (length-lowBits n x)
+
+pub bitsIn-append : (s r : List ℕ) → bitsIn (s ++ r) ≡ bitsIn s ++ bitsIn r
+bitsIn-append [] r = refl
+bitsIn-append (x ∷ s) r = ap (λ l. lowBits 8 x ++ l) (bitsIn-append s r) ∙ sym (append-assoc (lowBits 8 x) (bitsIn s) (bitsIn r))
 
 -- The bytes of packed bits
 

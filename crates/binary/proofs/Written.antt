@@ -2,7 +2,7 @@
 -- place, or to the whole, after its own bits too. So by induction on the bits: those that lead to a place, what has been read of a node, and
 -- those that are still to be read are the bits of the term that is read and those behind it.
 -- Assumes nothing.
-use Prim.Native.Nat.{ℕ, zero, suc, _+_, _-_, _≤_, _<_}
+use Prim.Native.Nat.{ℕ, suc, _+_, _-_, _≤_, _<_}
 use mathlib.Core.Path.{_≡_, refl, sym, ap, subst₂}
 use mathlib.Core.Bool.{Bool, true, false, cond, and-eq-true-iff}
 use mathlib.Core.List.{List, [], _∷_, _++_, append-assoc}
@@ -16,6 +16,7 @@ use Rattle.fireball.specs.Term.{Term, free, bound, lam, app, LooseBelow, Whole,
 use Rattle.termfile.specs.File.{maxNodes}
 use Rattle.binary.specs.Bits.{index, bits}
 use Rattle.binary.specs.Reading.{Place, whole, body, left, right, depth, Next, done, part, ended, variable, Begun, nothing, a-zero, ones, Reading, unread, read, within, onward, reading}
+use Rattle.binary.proofs.Ones.{replicate-snoc, index-append}
 
 -- Places
 
@@ -83,14 +84,6 @@ begun nothing = []
 begun a-zero = false ∷ []
 begun (ones k) = true ∷ replicate k true
 
-ones-more : (k : ℕ) (bs : List Bool) → replicate k true ++ (true ∷ bs) ≡ true ∷ (replicate k true ++ bs)
-ones-more zero bs = refl
-ones-more (suc k) bs = ap (λ l. true ∷ l) (ones-more k bs)
-
-ones-index : (k : ℕ) (bs : List Bool) → true ∷ (replicate k true ++ (false ∷ bs)) ≡ index k ++ bs
-ones-index zero bs = refl
-ones-index (suc k) bs = ap (λ l. true ∷ l) (ones-index k bs)
-
 -- bs are the bits of t and then rest, and t is a term that a file with f free names can have
 pub record Spells (f : ℕ) (t : Term) (rest bs : List Bool) : Type 0 where
   pub spelled : bs ≡ bits 0 t ++ rest
@@ -127,12 +120,12 @@ reading-spells f t rest (false ∷ bs) a-zero p fits e =
     rw append-assoc at (reading-spells f t rest bs nothing (body p) fits (within-read (ltb (nodesBefore p) maxNodes) _ t rest e .1))
 reading-spells f t rest (true ∷ bs) a-zero p fits e =
     rw append-assoc at (reading-spells f t rest bs nothing (left p) fits (within-read (ltb (nodesBefore p) maxNodes) _ t rest e .1))
-reading-spells f t rest (true ∷ bs) (ones k) p fits e = rw (ones-more k bs) (reading-spells f t rest bs (ones (suc k)) p fits e)
+reading-spells f t rest (true ∷ bs) (ones k) p fits e = rw (replicate-snoc true k bs) (reading-spells f t rest bs (ones (suc k)) p fits e)
 reading-spells f t rest (false ∷ bs) (ones k) p fits e =
     let test = within-read _ _ t rest e in
     let both = and-eq-true-iff (ltb (nodesBefore p) maxNodes) (ltb k (depth p + f)) .0 (test .0) in
     let var = variable-is f (depth p) k (ltb-true _ _ (both .1)) in
-    rw (ones-index k bs, ← append-assoc (before p) (index k) bs)
+    rw (← index-append k bs, ← append-assoc (before p) (index k) bs)
     (onward-spells t rest bs (variable-reached p fits var) (ltb-true _ _ (both .0)) (test .1)
     (λ q fit r. reading-spells f t rest bs nothing q fit r))
 

@@ -27,6 +27,8 @@ pub record Exchange : Type 0 where
   pub file-back : (s r : List ℕ) → Bytes s → exported s ≡ bytes r → imported (freeNames s) r ≡ bytes s
   -- "and the reverse holds for accepted bits"
   pub bits-back : (f : ℕ) (s r : List ℕ) → Bytes s → imported f s ≡ bytes r → exported r ≡ bytes s
+  -- the file that import writes has the f that the caller stated, so that the two may follow each other
+  pub names-kept : (f : ℕ) (s r : List ℕ) → Bytes s → imported f s ≡ bytes r → freeNames r ≡ f
   -- bits are accepted exactly when they are those of a term, packed
   pub accepts : (f : ℕ) (s : List ℕ) → Bytes s → Imports f s ↔ ((t : Term) × Packs f t s)
   -- and so two accepted files with one f have the same bits exactly when they stand for the same term

@@ -1,4 +1,4 @@
--- How an array keeps what is open: import and export hold the parts of a term that are not at their end in arrays, the innermost last.
+-- What private functions are held to, beyond the paper's definitions: an array that keeps a stack.
 use Prim.Native.Nat.{ℕ}
 use mathlib.Core.Path.{_≡_}
 use mathlib.Core.List.{List, [], _∷_}

@@ -1,4 +1,4 @@
-// The evaluator for programs in other languages: numbers and slices only.
+// The library for programs in other languages: numbers and slices only.
 //
 // `glow_evaluate` evaluates one term file and returns a status: 0 a normal form is written, 1 the budget
 // is spent, 2 the run is refused, 3 the file is refused, 4 the report array has fewer than 12 elements.

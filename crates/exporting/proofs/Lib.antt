@@ -1,6 +1,6 @@
 pub mod Items
 pub mod Walks
 pub mod Turns
-pub mod Pens
+pub mod Writers
 pub mod Nodes
 pub mod Answers

@@ -16,7 +16,7 @@ token-other zero k a b = absurd (a refl)
 token-other (suc zero) k a b = absurd (b refl)
 token-other (suc (suc t)) k a b = refl
 
--- the bits `done` are put, and those of the nodes from i on are left
+-- these bits are put, and those of the nodes from i on are left
 abbrev pub Left : List ℕ → List ℕ → List Bool → ℕ → Type 0
 Left ts ks bits i = bits ++ tokens (drop i ts) (drop i ks) ≡ tokens ts ks
 

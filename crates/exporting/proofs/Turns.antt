@@ -19,10 +19,11 @@ use Rattle.termfile.proofs.Naming.{values}
 use Rattle.binary.specs.Bits.{index, bits}
 use Rattle.binary.specs.Stacks.{Stacked}
 use Rattle.binary.proofs.Stacks.{stacked-push}
+use Rattle.binary.proofs.Ones.{length-index}
 use Rattle.exporting.specs.Tokens.{token, tokens, Coded}
 use Rattle.exporting.specs.Measuring.{indexOf, passedVariable, passedAbstraction, passedApplication, Small, Indexable}
 use Rattle.exporting.proofs.Items.{Item, part, nodesOf, bitsOf, depthsOf, length-depths, Items, levels-set, items-set, bits-variable, indexable, index-few}
-use Rattle.exporting.proofs.Walks.{length-index, tokens-next, Here, Walking, Walks}
+use Rattle.exporting.proofs.Walks.{tokens-next, Here, Walking, Walks}
 use Rattle.exporting.specs.declared.measuring.Walk.{Walk}
 
 -- the tag and the argument of the first of some nodes; no node has the tag 3

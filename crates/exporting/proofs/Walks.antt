@@ -1,7 +1,7 @@
--- A turn of measuring, for each kind of node. The invariant: the nodes from i on are those of the codes that are to be passed, and the bits of
--- the nodes before them, with those of these codes behind, are the bits of the term.
+-- What holds of measuring at each turn, at its start and at its end. The invariant: the nodes from i on are those of the codes that are to be
+-- passed, and the bits of the nodes before them, with those of these codes behind, are the bits of the term.
 -- Assumes nothing.
-use Prim.Native.Nat.{ℕ, zero, suc, _+_, _-_, _*_, _≤_, _<_}
+use Prim.Native.Nat.{ℕ, suc, _+_, _-_, _*_, _≤_, _<_}
 use mathlib.Core.Path.{_≡_, refl, sym, ap, _∙_, subst⁻¹}
 use mathlib.Core.List.{List, [], _∷_, _++_, append-assoc, append-nil}
 use native.Mathlib.Omega.{arith}
@@ -15,7 +15,7 @@ use Rattle.termfile.specs.File.{tags, nodes}
 use Rattle.termfile.specs.Passes.{Framed}
 use Rattle.termfile.proofs.Bytes as bytes
 use Rattle.termfile.proofs.Frame.{exact, nodes-end}
-use Rattle.binary.specs.Bits.{index, bits}
+use Rattle.binary.specs.Bits.{bits}
 use Rattle.binary.specs.Stacks.{Stacked}
 use Rattle.exporting.specs.Tokens.{token, tokens, Coded}
 use Rattle.exporting.specs.Measuring.{Measures}
@@ -23,10 +23,6 @@ use Rattle.exporting.proofs.Items.{Item, part, nodesOf, bitsOf, depthsO
 use Rattle.exporting.specs.declared.measuring.Walk.{Walk}
 
 -- Bits node by node
-
-pub length-index : (k : ℕ) → length (index k) ≡ k + 2
-length-index zero = refl
-length-index (suc k) = omega (arith, length-index k)
 
 tokens-snoc : (ts ks : List ℕ) (t k : ℕ) → length ts ≡ length ks → tokens (ts ++ (t ∷ [])) (ks ++ (k ∷ [])) ≡ tokens ts ks ++ token t k
 tokens-snoc [] [] t k e = append-nil (token t k)

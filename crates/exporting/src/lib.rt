@@ -1,7 +1,7 @@
 // Export: the bits of the term of a file, in binary lambda calculus. `export` takes any bytes and an
 // output of any length, and promises the answer that request 1 of paper 02 gives for them. It takes
-// time linear in the nodes and the bits, and calls nothing of its own again, however deep the term
-// is. Refused are, in this order:
+// time linear in the nodes and the bits, and no function calls itself, however deep the term is.
+// Refused are, in this order:
 //
 //   1 to 7 File    the file is not a term file
 //   12 Output      the output is shorter than the packed bits

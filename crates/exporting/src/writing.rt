@@ -1,5 +1,5 @@
 // The pass that puts the bits of a term.
-use crate::putting::Pen;
+use crate::putting::Writer;
 use crate::putting::finish;
 use crate::putting::put_node;
 ghost use mathlib.Core.Path.{_≡_};
@@ -16,7 +16,7 @@ pub fn write_bits(out: &mut [u8], tags: &[u8], indices: &[u16])
     requires { ⌜ length (tokens (now tags) (now indices)) ≤ 8 * length (now out) ⌝ }
     ensures { λ _. ⌜ now (out .exit) ≡ overlay (pack (tokens (now (tags .entry)) (now (indices .entry)))) (now (out .entry)) ⌝ }
 {
-    let mut pen = Pen {
+    let mut writer = Writer {
         at: 0,
         byte: 0,
         count: 0,
@@ -25,8 +25,8 @@ pub fn write_bits(out: &mut [u8], tags: &[u8], indices: &[u16])
     while i < tags.len() {
         let tag = tags[i];
         let k = indices[i];
-        pen = put_node(out, pen, tag, k);
+        writer = put_node(out, writer, tag, k);
         i += 1;
     }
-    finish(out, pen);
+    finish(out, writer);
 }

@@ -1,6 +1,6 @@
 -- The bits behind a cursor: what taking one bit from a byte leaves, and cursors behind each other.
 -- Assumes nothing.
-use Prim.Native.Nat.{ℕ, zero, suc, _+_, _-_, _/_, _%_, _^_, _≤_, _<_}
+use Prim.Native.Nat.{ℕ, suc, _+_, _-_, _/_, _%_, _^_, _≤_, _<_}
 use mathlib.Core.Path.{_≡_, refl, sym, ap, _∙_, subst}
 use mathlib.Core.Bool.{Bool, true, false, cond}
 use mathlib.Core.List.{List, _∷_, _++_}
@@ -9,6 +9,7 @@ use lib.Dec.{eqb}
 use lib.ListN.{length, getD, drop, replicate, drop-of-length-le}
 use lib.Seq.{drop-cons}
 use Rattle.binary.specs.Bits.{lowBits, bitsIn}
+use Rattle.binary.proofs.Ones.{replicate-snoc}
 use Rattle.importing.specs.Ahead.{ahead, bitOf, taken, Behind, Bitwise}
 use Rattle.importing.specs.declared.cursor.Cursor.{Cursor}
 use Rattle.importing.specs.declared.cursor.Bit.{Bit}
@@ -68,9 +69,5 @@ behind-then m e p q =
 
 -- Ones
 
-replicate-snoc : (j : ℕ) (bs : List Bool) → replicate j true ++ (true ∷ bs) ≡ replicate (suc j) true ++ bs
-replicate-snoc zero bs = refl
-replicate-snoc (suc j) bs = ap (λ l. true ∷ l) (replicate-snoc j bs)
-
 pub ones-more : {bs cs ds : List Bool} (j : ℕ) → bs ≡ replicate j true ++ cs → cs ≡ true ∷ ds → bs ≡ replicate (suc j) true ++ ds
-ones-more {ds = ds} j p q = p ∙ ap (λ l. replicate j true ++ l) q ∙ replicate-snoc j ds
+ones-more {ds = ds} j p q = p ∙ ap (λ l. replicate j true ++ l) q ∙ replicate-snoc true j ds

@@ -13,7 +13,7 @@ use Rattle.termfile.proofs.Bytes.{length-fileOf}
 use Rattle.binary.specs.Reading.{unread}
 use Rattle.binary.specs.Answer.{number, bytes, padding, fileFrom, imported}
 use Rattle.importing.specs.Ahead.{ahead}
-use Rattle.importing.specs.Promise.{fileBytes}
+use Rattle.importing.specs.Writing.{fileBytes}
 use Rattle.importing.specs.Scanning.{readingOf, ReadTo}
 use Rattle.importing.specs.declared.cursor.Cursor.{Cursor}
 

@@ -1,7 +1,7 @@
 -- How many bits are ahead, and whether they are padding.
 -- Assumes nothing.
-use Prim.Native.Nat.{ℕ, zero, suc, _+_, _-_, _*_, _≤_, _<_}
-use mathlib.Core.Path.{_≡_, refl, sym, ap}
+use Prim.Native.Nat.{ℕ, _+_, _-_, _*_, _≤_, _<_}
+use mathlib.Core.Path.{_≡_, sym, ap}
 use mathlib.Core.Bool.{_&&_, false}
 use mathlib.Core.List.{List}
 use native.Mathlib.Omega.{arith}
@@ -9,13 +9,9 @@ use lib.ListN.{length, drop, length-append, length-drop}
 use borrow.Author.Tests.{lt-ltb, le-ltb}
 use Rattle.binary.specs.Bits.{lowBits, bitsIn}
 use Rattle.binary.specs.Answer.{zeros, padding}
-use Rattle.binary.proofs.Packing.{length-bitsIn}
+use Rattle.binary.proofs.Packing.{length-lowBits, length-bitsIn}
 use Rattle.importing.specs.Ahead.{ahead, Sound}
 use Rattle.importing.specs.declared.cursor.Cursor.{Cursor}
-
-length-lowBits : (n x : ℕ) → length (lowBits n x) ≡ n
-length-lowBits zero x = refl
-length-lowBits (suc n) x = ap suc (length-lowBits n x)
 
 module _ (s : List ℕ) (c : Cursor) where
   length-ahead : length (ahead s c) ≡ c .left + 8 * (length s - c .at)

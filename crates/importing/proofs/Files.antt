@@ -11,7 +11,7 @@ use Rattle.termfile.specs.Canonical.{wordBytes, wordsBytes}
 use Rattle.termfile.specs.Output.{overlay}
 use Rattle.termfile.proofs.Bytes.{wordsBytes-append, length-wordsBytes}
 use Rattle.termfile.proofs.Sets.{sets-append, set-before, sets-front}
-use Rattle.importing.specs.Promise.{fileBytes}
+use Rattle.importing.specs.Writing.{fileBytes}
 
 -- the first i of n nodes are stored behind the counts
 abbrev pub stored : List ℕ → List ℕ → List ℕ → ℕ → ℕ → List ℕ

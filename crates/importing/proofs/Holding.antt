@@ -1,5 +1,5 @@
--- What reading a node does to the arrays that hold the nodes so far. The idea: a node is put behind the others, a name or an open application
--- on top of a stack, and when a left part ends, its application is the top of the open ones, so that one store gives it the part's size.
+-- The nodes up to a place: how many they are, and how they go on where a term ends there. The idea: a term that ends is the last part of the
+-- term around it, up to an application whose left part it ends, which is the top of the open ones, or to the whole.
 -- Assumes nothing.
 use Prim.Native.Nat.{ℕ, suc, _+_, _-_, _≤_, _<_}
 use mathlib.Core.Path.{_≡_, refl, sym, ap, _∙_}

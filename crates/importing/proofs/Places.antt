@@ -1,4 +1,5 @@
--- What the four functions that put nodes leave in the arrays: from one place to the next.
+-- What putting a node, and closing a left part, leave in the arrays: from one place to the next. The idea: a node is put behind the others, a
+-- name or an open application on top of a stack, and where a left part ends one store gives its application the part's size.
 -- Assumes nothing.
 use Prim.Native.Nat.{ℕ, suc, _+_, _-_, _≤_}
 use mathlib.Core.Path.{_≡_, refl, sym, ap, _∙_, subst}

@@ -1,4 +1,4 @@
 pub mod Ahead
 pub mod Holding
 pub mod Scanning
-pub mod Promise
+pub mod Writing

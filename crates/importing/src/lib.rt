@@ -1,7 +1,7 @@
 // Import: the file of a term whose bits are given, in binary lambda calculus. `import` takes any
 // bytes, any count of free names and an output of any length, and promises the answer that request
-// 1 of paper 02 gives for them. It takes time linear in the bits and the nodes, and calls nothing
-// of its own again, however deep the term is. Refused are, in this order:
+// 1 of paper 02 gives for them. It takes time linear in the bits and the nodes, and no function
+// calls itself, however deep the term is. Refused are, in this order:
 //
 //   2 File(Limits)   more than 16,384 free names
 //   14 Ends          the bits end inside a term, or there are none   } whichever comes first in the

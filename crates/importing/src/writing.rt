@@ -7,7 +7,7 @@ ghost use lib.Seq.{sets};
 ghost use Rattle.termfile.specs.File.{maxFree, maxNodes};
 ghost use Rattle.termfile.specs.Canonical.{wordBytes, wordsBytes};
 ghost use Rattle.termfile.specs.Output.{overlay};
-ghost use Rattle.importing.specs.Promise.{fileBytes};
+ghost use Rattle.importing.specs.Writing.{fileBytes};
 
 // Writes the counts of free names and of nodes.
 fn write_counts(out: &mut [u8], f: usize, n: usize)

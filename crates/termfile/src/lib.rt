@@ -1,7 +1,8 @@
-// The term file: whether a byte string is one. `check` takes any byte string and promises the answer
-// that paper 01's table of numbered answers gives for it: the counts of an accepted file, or the
-// first refusal that the file meets, each tested over the whole file before the next. It writes to
-// nothing that is lent to it, and takes time linear in the file. Refused are:
+// The term file: whether a byte string is one; and `word`, the number of two of its bytes. `check`
+// takes any byte string and promises the answer that paper 01's table of numbered answers gives for
+// it: the counts of an accepted file, or the first refusal that the file meets, each tested over the
+// whole file before the next. It writes to nothing that is lent to it, and takes time linear in the
+// file. Refused are:
 //
 //   1 Short     fewer than 4 bytes
 //   2 Limits    above 16,384 free names, no node, or above 16,384 nodes

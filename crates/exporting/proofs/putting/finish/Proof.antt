@@ -2,7 +2,7 @@
 -- Assumes nothing.
 use native.Mathlib.Omega.{arith}
 use borrow.Author.Needs.{needs}
-use Rattle.exporting.proofs.Pens.{finished-even, finished}
+use Rattle.exporting.proofs.Writers.{finished-even, finished}
 use Rattle.exporting.proofs.putting.finish.Statement.{statement}
 use Rattle.exporting.proofs.putting.finish.Tie as tie
 
@@ -19,10 +19,10 @@ same-length : tie.Need-same-length
 same-length c = search needs
 
 returns : tie.Need-returns
-returns c = λ bs l₀ w. finished (c .before .before .args .pen) (c .before .before .args .out .now) bs l₀ w (c .before .if1 .taken) (omega (arith, c .before .before .pre .fits))
+returns c = λ bs l₀ w. finished (c .before .before .args .writer) (c .before .before .args .out .now) bs l₀ w (c .before .if1 .taken) (omega (arith, c .before .before .pre .fits))
 
 returns-2 : tie.Need-returns-2
-returns-2 c = λ bs l₀ w. finished-even (c .before .args .pen) (c .before .args .out .now) bs l₀ w (c .if1 .left)
+returns-2 c = λ bs l₀ w. finished-even (c .before .args .writer) (c .before .args .out .now) bs l₀ w (c .if1 .left)
 
 pub finish-spec : {M : Type 1} → statement M
 finish-spec = tie.close (tie.spec sub-out shl-out slice-write-out same-length returns returns-2)

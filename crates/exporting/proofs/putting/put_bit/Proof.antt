@@ -2,7 +2,7 @@
 -- Assumes nothing.
 use native.Mathlib.Omega.{arith}
 use borrow.Author.Needs.{needs}
-use Rattle.exporting.proofs.Pens.{bit-begun, bit-full}
+use Rattle.exporting.proofs.Writers.{bit-begun, bit-full}
 use Rattle.exporting.proofs.putting.put_bit.Statement.{statement}
 use Rattle.exporting.proofs.putting.put_bit.Tie as tie
 
@@ -13,7 +13,7 @@ add-count : tie.Need-add-count
 add-count c = search needs
 
 returns : tie.Need-returns
-returns c = bit-begun (c .before .before .before .args .pen) (c .before .before .before .args .bit) (c .before .before .before .pre .0) (c .before .before .before .args .out .now) (c .if1 .taken)
+returns c = bit-begun (c .before .before .before .args .writer) (c .before .before .before .args .bit) (c .before .before .before .pre .0) (c .before .before .before .args .out .now) (c .if1 .taken)
 
 slice-write-out : tie.Need-slice-write-out
 slice-write-out c = search needs
@@ -28,7 +28,7 @@ returns-2 : tie.Need-returns-2
 returns-2 c =
     let a = c .before .before .before .args in
     let p = c .before .before .before .pre in
-    bit-full (a .pen) (a .bit) (p .0) (a .out .now) (p .1 .few) (c .if1 .left) (omega (arith, p .1 .fits))
+    bit-full (a .writer) (a .bit) (p .0) (a .out .now) (p .1 .few) (c .if1 .left) (omega (arith, p .1 .fits))
 
 pub put-bit-spec : {M : Type 1} → statement M
 put-bit-spec =

@@ -7,18 +7,18 @@ use mathlib.Core.List.{[], _∷_, _++_}
 use native.Mathlib.Omega.{arith}
 use lib.ListN.{length, replicate, length-replicate}
 use Rattle.exporting.specs.Putting.{Puts}
-use Rattle.exporting.proofs.Pens.{puts-none, puts-then, puts-as, ones-snoc, index-ones}
+use Rattle.exporting.proofs.Writers.{puts-none, puts-then, puts-as, ones-snoc, index-ones}
 use Rattle.exporting.proofs.putting.put_index.Statement.{statement}
 use Rattle.exporting.proofs.putting.put_index.Tie as tie
 
 abbrev Inv-loop : tie.InvT-loop
-Inv-loop out₀ k most p₀ i₀ out p i = (i ≤ k + 1) × (length out ≡ length out₀) × Puts (replicate i true) p₀ out₀ p out
+Inv-loop out₀ k ones p₀ i₀ out p i = (i ≤ k + 1) × (length out ≡ length out₀) × Puts (replicate i true) p₀ out₀ p out
 
 abbrev μ-loop : tie.MeasureT-loop
-μ-loop out₀ k most p₀ i₀ out p i = k + 1 - i
+μ-loop out₀ k ones p₀ i₀ out p i = k + 1 - i
 
-add-most : tie.Need-add-most Inv-loop μ-loop
-add-most c = omega arith
+add-ones : tie.Need-add-ones Inv-loop μ-loop
+add-ones c = omega arith
 
 loop-holds : tie.Need-loop-holds Inv-loop μ-loop
 loop-holds c = (omega arith, refl, puts-none _ _ (c .before .pre .few))
@@ -61,7 +61,7 @@ put-index-spec =
     (tie.spec
     Inv-loop
     μ-loop
-    add-most
+    add-ones
     loop-holds
     put-bit-requires
     add-i

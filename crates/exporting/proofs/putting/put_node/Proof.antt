@@ -7,8 +7,8 @@ use native.Mathlib.Omega.{arith}
 use lib.ListN.{length}
 use borrow.Author.Needs.{needs}
 use Rattle.exporting.specs.Tokens.{token}
-use Rattle.exporting.proofs.Walks.{length-index}
-use Rattle.exporting.proofs.Pens.{puts-then, puts-as}
+use Rattle.binary.proofs.Ones.{length-index}
+use Rattle.exporting.proofs.Writers.{puts-then, puts-as}
 use Rattle.exporting.proofs.Nodes.{token-other}
 use Rattle.exporting.proofs.putting.put_node.Statement.{statement}
 use Rattle.exporting.proofs.putting.put_node.Tie as tie

@@ -9,16 +9,16 @@ use lib.ListN.{length}
 use Rattle.termfile.specs.Output.{overlay}
 use Rattle.binary.specs.Bits.{pack}
 use Rattle.exporting.specs.Putting.{Puts}
-use Rattle.exporting.proofs.Pens.{puts-none, puts-then, put-first}
+use Rattle.exporting.proofs.Writers.{puts-none, puts-then, put-first}
 use Rattle.exporting.proofs.Nodes.{Left, left-next, left-fits, left-none}
 use Rattle.exporting.proofs.writing.write_bits.Statement.{statement}
 use Rattle.exporting.proofs.writing.write_bits.Tie as tie
 
 abbrev Inv-loop : tie.InvT-loop
-Inv-loop out₀ tags indices pen₀ i₀ out pen i = (i ≤ length tags) × (length out ≡ length out₀) × ((bs : List Bool) × Puts bs pen₀ out₀ pen out × Left tags indices bs i)
+Inv-loop out₀ tags indices pen₀ i₀ out writer i = (i ≤ length tags) × (length out ≡ length out₀) × ((bs : List Bool) × Puts bs pen₀ out₀ writer out × Left tags indices bs i)
 
 abbrev μ-loop : tie.MeasureT-loop
-μ-loop out₀ tags indices pen₀ i₀ out pen i = length tags - i
+μ-loop out₀ tags indices pen₀ i₀ out writer i = length tags - i
 
 loop-holds : tie.Need-loop-holds Inv-loop μ-loop
 loop-holds c = (omega arith, refl, ([], puts-none _ _ (omega arith), refl))

@@ -1,4 +1,4 @@
--- What a file's bytes are, given its tags and arguments.
+-- What writing a file is held to: its bytes, given its tags and arguments.
 use Prim.Native.Nat.{ℕ}
 use mathlib.Core.List.{List, _++_}
 use lib.ListN.{length}

@@ -9,18 +9,17 @@ use native.Mathlib.Nat.{pow-suc, mul-assoc}
 use native.Mathlib.Omega.{arith}
 use native.Mathlib.Numerals.{add-one}
 use lib.Dec.{eqb}
-use lib.ListN.{length, take, drop, set, replicate, length-append, length-set, length-replicate, take-append-drop}
+use lib.ListN.{length, take, drop, set, replicate, length-append, length-set, take-append-drop}
 use lib.Pow.{pow-mono, shl-lt, shr-shr}
 use lib.Seq.{take-suc-set, drop-set-lt, drop-drop, length-take-le}
-use borrow.Author.Tests.{lt-ltb}
 use Rattle.termfile.specs.File.{Bytes}
 use Rattle.termfile.specs.Output.{overlay}
 use Rattle.binary.specs.Bits.{lowBits, bitsIn, index, pack}
-use Rattle.binary.specs.Answer.{zeros, padding}
-use Rattle.binary.proofs.Packing.{pack-unique}
-use Rattle.binary.proofs.Ones.{index-append}
+use Rattle.binary.specs.Answer.{padding}
+use Rattle.binary.proofs.Packing.{bitsIn-append, padding-replicate, pack-unique}
+use Rattle.binary.proofs.Ones.{replicate-snoc, index-append}
 use Rattle.exporting.specs.Putting.{Put, Puts}
-use Rattle.exporting.specs.declared.putting.Pen.{Pen}
+use Rattle.exporting.specs.declared.putting.Writer.{Writer}
 
 -- Bits of a byte
 
@@ -37,10 +36,6 @@ lowBits-shift zero x b h =
     ap (λ y. eqb y 1 ∷ []) e
 lowBits-shift (suc c) x b h = ap₂ (λ y l. eqb (y % 2) 1 ∷ l) (halves c x b h) (lowBits-shift c x b h)
 
-replicate-snoc : (d : ℕ) → replicate d false ++ (false ∷ []) ≡ replicate (suc d) false
-replicate-snoc zero = refl
-replicate-snoc (suc d) = ap (λ l. false ∷ l) (replicate-snoc d)
-
 -- zeros that are shifted in
 lowBits-zeros : (c x d : ℕ) → lowBits (d + c) (x * 2 ^ d) ≡ lowBits c x ++ replicate d false
 lowBits-zeros c x zero =
@@ -51,11 +46,7 @@ lowBits-zeros c x (suc d) =
     let e : suc d + c ≡ suc (d + c) = omega arith in
     let g : x * 2 ^ suc d ≡ x * 2 ^ d * 2 + 0 = ap (λ y. x * y) (pow-suc 2 d) ∙ omega (arith, mul-assoc x (2 ^ d) 2) in
     ap₂ lowBits e g ∙ lowBits-shift (d + c) (x * 2 ^ d) 0 (omega arith) ∙ ap (λ l. l ++ (false ∷ [])) (lowBits-zeros c x d)
-    ∙ append-assoc (lowBits c x) (replicate d false) (false ∷ []) ∙ ap (λ l. lowBits c x ++ l) (replicate-snoc d)
-
-bitsIn-append : (s r : List ℕ) → bitsIn (s ++ r) ≡ bitsIn s ++ bitsIn r
-bitsIn-append [] r = refl
-bitsIn-append (x ∷ s) r = ap (λ l. lowBits 8 x ++ l) (bitsIn-append s r) ∙ sym (append-assoc (lowBits 8 x) (bitsIn s) (bitsIn r))
+    ∙ append-assoc (lowBits c x) (replicate d false) (false ∷ []) ∙ ap (λ l. lowBits c x ++ l) (replicate-snoc false d [] ∙ append-nil (replicate (suc d) false))
 
 bytes-snoc : (s : List ℕ) (x : ℕ) → Bytes s → x < 256 → Bytes (s ++ (x ∷ []))
 bytes-snoc [] x b h zero = h
@@ -83,7 +74,7 @@ module _ (l : List ℕ) (at x : ℕ) (h : at < length l) where
 begun-small : (x c : ℕ) → c < 8 → x < 2 ^ c → x < 128
 begun-small x c h g = omega (arith, pow-mono {i = c} {j = 7} (omega arith))
 
-module _ (p : Pen) (b : ℕ) (bit : b ≤ 1) (l : List ℕ) where
+module _ (p : Writer) (b : ℕ) (bit : b ≤ 1) (l : List ℕ) where
   shifted : ℕ
   shifted = p .byte * 2 ^ 1 % 256 + b
 
@@ -142,37 +133,27 @@ module _ (p : Pen) (b : ℕ) (bit : b ≤ 1) (l : List ℕ) where
 
 -- Bits behind each other
 
-pub puts-none : (p : Pen) (l : List ℕ) → p .count < 8 → Puts [] p l p l
+pub puts-none : (p : Writer) (l : List ℕ) → p .count < 8 → Puts [] p l p l
 puts-none p l h =
     record { moved = record { few = h; far = omega arith }; put = λ as′ l₀ w. subst⁻¹ (λ bs. Put bs l₀ p l) (append-nil as′) w }
 
-pub puts-then : {p q r : Pen} {l l′ l″ : List ℕ} (as′ bs : List Bool) → Puts as′ p l q l′ → Puts bs q l′ r l″ → Puts (as′ ++ bs) p l r l″
+pub puts-then : {p q r : Writer} {l l′ l″ : List ℕ} (as′ bs : List Bool) → Puts as′ p l q l′ → Puts bs q l′ r l″ → Puts (as′ ++ bs) p l r l″
 puts-then {p} {q} {r} {l} {l′} {l″} as′ bs u v =
     record {
       moved = record { few = v .moved .few; far = omega (arith, u .moved .far, v .moved .far, length-append as′ bs) };
       put = λ cs l₀ w. subst (λ ds. Put ds l₀ r l″) (append-assoc cs as′ bs) (v .put (cs ++ as′) l₀ (u .put cs l₀ w));
     }
 
-pub puts-as : {p q : Pen} {l l′ : List ℕ} {as′ bs : List Bool} → as′ ≡ bs → Puts as′ p l q l′ → Puts bs p l q l′
+pub puts-as : {p q : Writer} {l l′ : List ℕ} {as′ bs : List Bool} → as′ ≡ bs → Puts as′ p l q l′ → Puts bs p l q l′
 puts-as {p} {q} {l} {l′} e u = subst (λ bs. Puts bs p l q l′) e u
 
 pub ones-snoc : (i : ℕ) → replicate i true ++ (true ∷ []) ≡ replicate (i + 1) true
-ones-snoc zero = refl
-ones-snoc (suc i) =
-    let e : suc (i + 1) ≡ suc i + 1 = omega arith in
-    ap (λ l. true ∷ l) (ones-snoc i) ∙ ap (λ k. replicate k true) e
+ones-snoc i = replicate-snoc true i [] ∙ append-nil (replicate (suc i) true) ∙ ap (λ k. replicate k true) (sym (add-one i))
 
 pub index-ones : (k : ℕ) → replicate (k + 1) true ++ (false ∷ []) ≡ index k
 index-ones k = ap (λ j. replicate j true ++ (false ∷ [])) (add-one k) ∙ sym (index-append k []) ∙ append-nil (index k)
 
 -- The end
-
-zeros-replicate : (d : ℕ) → zeros (replicate d false) ≡ true
-zeros-replicate zero = refl
-zeros-replicate (suc d) = zeros-replicate d
-
-padding-replicate : (d : ℕ) → d < 8 → padding (replicate d false) ≡ true
-padding-replicate d h = rw (zeros-replicate d, lt-ltb (length (replicate d false)) 8 (omega (arith, length-replicate d false)))
 
 -- an array whose first bytes have the bits and padding
 overlaid : (l l₀ : List ℕ) (at : ℕ) (bs rest : List Bool) → at ≤ length l → Bytes (take at l) → bitsIn (take at l) ≡ bs ++ rest → padding rest ≡ true
@@ -182,7 +163,7 @@ overlaid l l₀ at bs rest h b e q d =
     let count : length (pack bs) ≡ at = ap length (sym packed) ∙ length-take-le at l h in
     sym (take-append-drop at l) ∙ ap₂ _++_ packed d ∙ ap (λ k. pack bs ++ drop k l₀) (sym count)
 
-module _ (p : Pen) (l : List ℕ) (bs : List Bool) (l₀ : List ℕ) (w : Put bs l₀ p l) where
+module _ (p : Writer) (l : List ℕ) (bs : List Bool) (l₀ : List ℕ) (w : Put bs l₀ p l) where
   pub finished-even : p .count ≤ 0 → l ≡ overlay (pack bs) l₀
   finished-even h =
       let none : p .count ≡ 0 = omega arith in
