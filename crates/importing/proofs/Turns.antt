@@ -25,6 +25,7 @@ use Rattle.importing.specs.declared.node.Node.the-variants.{Cut, Abstrac
 use Rattle.importing.specs.declared.placing.Spot.{Spot}
 
 pub record Turn (f : ℕ) (s : List ℕ) (c : Cursor) (st : Spot) (ts ms xs ys : List ℕ) : Type 0 where
+  pub few-free : f ≤ maxFree
   pub place : Place
   pub holds : Before f place st ts ms xs ys
   pub going : readingOf f s ≡ reading f nothing place (st .nodes) (ahead s c)
@@ -32,10 +33,11 @@ pub record Turn (f : ℕ) (s : List ℕ) (c : Cursor) (st : Spot) (ts ms xs ys :
   pub enough : 2 * st .nodes + length (ahead s c) ≤ 8 * length s
   pub few : st .nodes ≤ maxNodes
 
-pub turn-first : (f : ℕ) (s ts ms xs ys : List ℕ)
+pub turn-first : (f : ℕ) (s ts ms xs ys : List ℕ) → f ≤ maxFree
     → Turn f s (record { at = 0; byte = 0; left = 0 }) (record { nodes = 0; depth = 0; pending = 0; name = f }) ts ms xs ys
-turn-first f s ts ms xs ys =
+turn-first f s ts ms xs ys h =
     record {
+      few-free = h;
       place = whole;
       holds =
           record {
@@ -54,7 +56,7 @@ turn-first f s ts ms xs ys =
       few = omega arith;
     }
 
-module _ (f : ℕ) (s : List ℕ) (c : Cursor) (st : Spot) (ts ms xs ys : List ℕ) (few-free : f ≤ maxFree) (t : Turn f s c st ts ms xs ys) where
+module _ {f : ℕ} {s : List ℕ} {c : Cursor} {st : Spot} {ts ms xs ys : List ℕ} (t : Turn f s c st ts ms xs ys) where
   depth-is : st .depth ≡ depth (t .place)
   depth-is = t .holds .depth-is ∙ around-depth f (t .place)
 
@@ -86,13 +88,13 @@ module _ (f : ℕ) (s : List ℕ) (c : Cursor) (st : Spot) (ts ms xs ys : List �
       }
 
   -- a node beyond the limit
-  pub abstraction-beyond : (d : Cursor) → maxNodes ≤ st .nodes → NodeAt nothing 2 s c (Abstraction d) → readingOf f s ≡ unread 16
-  abstraction-beyond d h w =
+  pub abstraction-beyond : {d : Cursor} → maxNodes ≤ st .nodes → NodeAt nothing 2 s c (Abstraction d) → readingOf f s ≡ unread 16
+  abstraction-beyond {d} h w =
       node-next (Abstraction d) w
       ∙ ap (λ q. within q (reading f nothing (body (t .place)) (suc (st .nodes)) (ahead s d))) (le-ltb (st .nodes) maxNodes h)
 
-  pub application-beyond : (d : Cursor) → maxNodes ≤ st .nodes → NodeAt nothing 2 s c (Application d) → readingOf f s ≡ unread 16
-  application-beyond d h w =
+  pub application-beyond : {d : Cursor} → maxNodes ≤ st .nodes → NodeAt nothing 2 s c (Application d) → readingOf f s ≡ unread 16
+  application-beyond {d} h w =
       node-next (Application d) w
       ∙ ap (λ q. within q (reading f nothing (left (t .place)) (suc (st .nodes)) (ahead s d))) (le-ltb (st .nodes) maxNodes h)
 
@@ -100,11 +102,11 @@ module _ (f : ℕ) (s : List ℕ) (c : Cursor) (st : Spot) (ts ms xs ys : List �
   behind : (k : ℕ) (d : Cursor) → Reading
   behind k d = onward (ended (t .place) (variable (depth (t .place)) k)) (ahead s d) (λ q. reading f nothing q (suc (st .nodes)) (ahead s d))
 
-  pub variable-beyond : (k : ℕ) (d : Cursor) → maxNodes ≤ st .nodes → NodeAt nothing 2 s c (Variable k d) → readingOf f s ≡ unread 16
-  variable-beyond k d h w = node-next (Variable k d) w ∙ node-over f (t .place) (st .nodes) k (ahead s d) h
+  pub variable-beyond : {k : ℕ} {d : Cursor} → maxNodes ≤ st .nodes → NodeAt nothing 2 s c (Variable k d) → readingOf f s ≡ unread 16
+  variable-beyond {k} {d} h w = node-next (Variable k d) w ∙ node-over f (t .place) (st .nodes) k (ahead s d) h
 
-  pub index-beyond : (k : ℕ) (d : Cursor) → st .depth + f ≤ k → NodeAt nothing 2 s c (Variable k d) → readingOf f s ≡ unread 16
-  index-beyond k d h w =
+  pub index-beyond : {k : ℕ} {d : Cursor} → st .depth + f ≤ k → NodeAt nothing 2 s c (Variable k d) → readingOf f s ≡ unread 16
+  index-beyond {k} {d} h w =
       node-next (Variable k d) w ∙ index-over f (t .place) (st .nodes) k (ahead s d) (omega (arith, depth-is))
 
   module _ (less : st .nodes < maxNodes) where
@@ -115,6 +117,7 @@ module _ (f : ℕ) (s : List ℕ) (c : Cursor) (st : Spot) (ts ms xs ys : List �
     turn-node p d r ts′ ms′ xs′ ys′ good short longer h e =
         let n : suc (st .nodes) ≡ r .nodes = omega (arith, h .count, t .holds .count) in
         record {
+          few-free = t .few-free;
           place = p;
           holds = h;
           going = e ∙ ap (λ k. reading f nothing p k (ahead s d)) n;
@@ -123,22 +126,22 @@ module _ (f : ℕ) (s : List ℕ) (c : Cursor) (st : Spot) (ts ms xs ys : List �
           few = omega arith;
         }
 
-    pub turn-abstraction : (d : Cursor) (r : Spot) (ts′ ms′ xs′ ys′ : List ℕ) → NodeAt nothing 2 s c (Abstraction d)
+    pub turn-abstraction : {d : Cursor} {r : Spot} {ts′ ms′ xs′ ys′ : List ℕ} → NodeAt nothing 2 s c (Abstraction d)
         → Before f (body (t .place)) r ts′ ms′ xs′ ys′ → Turn f s d r ts′ ms′ xs′ ys′
-    turn-abstraction d r ts′ ms′ xs′ ys′ w h =
+    turn-abstraction {d} {r} {ts′} {ms′} {xs′} {ys′} w h =
         turn-node (body (t .place)) d r ts′ ms′ xs′ ys′ (w .shorter .0) (w .shorter .1) (length-append (nodesTo f (t .place)) _ ∙ omega arith) h
         (node-next (Abstraction d) w
         ∙ ap (λ q. within q (reading f nothing (body (t .place)) (suc (st .nodes)) (ahead s d))) (lt-ltb (st .nodes) maxNodes less))
 
-    pub turn-application : (d : Cursor) (r : Spot) (ts′ ms′ xs′ ys′ : List ℕ) → NodeAt nothing 2 s c (Application d)
+    pub turn-application : {d : Cursor} {r : Spot} {ts′ ms′ xs′ ys′ : List ℕ} → NodeAt nothing 2 s c (Application d)
         → Before f (left (t .place)) r ts′ ms′ xs′ ys′ → Turn f s d r ts′ ms′ xs′ ys′
-    turn-application d r ts′ ms′ xs′ ys′ w h =
+    turn-application {d} {r} {ts′} {ms′} {xs′} {ys′} w h =
         turn-node (left (t .place)) d r ts′ ms′ xs′ ys′ (w .shorter .0) (w .shorter .1) (length-append (nodesTo f (t .place)) _ ∙ omega arith) h
         (node-next (Application d) w
         ∙ ap (λ q. within q (reading f nothing (left (t .place)) (suc (st .nodes)) (ahead s d))) (lt-ltb (st .nodes) maxNodes less))
 
     -- a variable in range
-    module _ (k : ℕ) (d : Cursor) (near : k < st .depth + f) (w : NodeAt nothing 2 s c (Variable k d)) where
+    module _ {k : ℕ} {d : Cursor} (near : k < st .depth + f) (w : NodeAt nothing 2 s c (Variable k d)) where
       and-both : (a b : Bool) → a ≡ true → b ≡ true → a && b ≡ true
       and-both a b p q = ap (λ x. x && b) p ∙ q
 
@@ -155,7 +158,7 @@ module _ (f : ℕ) (s : List ℕ) (c : Cursor) (st : Spot) (ts ms xs ys : List �
       size-pick false y = refl
 
       -- once it is put, in arrays that then hold ts′ and ms′
-      module _ (r : Spot) (ts′ ms′ : List ℕ) (h : After f (t .place) (variable (st .depth) k) r ts′ ms′ xs ys) where
+      module _ {r : Spot} {ts′ ms′ : List ℕ} (h : After f (t .place) (variable (st .depth) k) r ts′ ms′ xs ys) where
         same-term : variable (st .depth) k ≡ variable (depth (t .place)) k
         same-term = ap (λ m. variable m k) depth-is
 
@@ -224,5 +227,5 @@ module _ (f : ℕ) (s : List ℕ) (c : Cursor) (st : Spot) (ts ms xs ys : List �
             closable f (t .place) (o .next) (variable (st .depth) k) r ts′ ms′ xs ys (o .ends) h (omega (arith, one-more)) (omega (arith, one-more))
             (omega (arith, one-more))
 
-        pub turn-part : (o : Onward) (r′ : Spot) (ms″ : List ℕ) → Before f (o .next) r′ ts′ ms″ xs ys → Turn f s d r′ ts′ ms″ xs ys
-        turn-part o r′ ms″ b = turn-node (o .next) d r′ ts′ ms″ xs ys (w .shorter .0) (w .shorter .1) (o .longer) b (o .going)
+        pub turn-part : (o : Onward) {r′ : Spot} {ms″ : List ℕ} → Before f (o .next) r′ ts′ ms″ xs ys → Turn f s d r′ ts′ ms″ xs ys
+        turn-part o {r′} {ms″} b = turn-node (o .next) d r′ ts′ ms″ xs ys (w .shorter .0) (w .shorter .1) (o .longer) b (o .going)
