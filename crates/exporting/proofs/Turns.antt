@@ -26,6 +26,26 @@ use Rattle.exporting.proofs.Items.{Item, part, nodesOf, bitsOf, depthsO
 use Rattle.exporting.proofs.Walks.{tokens-next, Here, Walking, Walks}
 use Rattle.exporting.specs.declared.measuring.Walk.{Walk}
 
+-- what is asked of the arrays at a variable with the name x, and how the walk goes on behind it
+pub record AtVariable (s : List ℕ) (f : ℕ) (c : Code) (i : ℕ) (ks ls ds : List ℕ) (w : Walk) (x : ℕ) : Type 0 where
+  pub in-range : Indexable f ls (w .depth) x
+  pub pending-few : w .pending ≤ i
+  pub total-few : w .total ≤ 32770 * i
+  pub again : (k : ℕ) → k ≡ indexOf ls f (w .depth) x → Walks s f c (i + 1) (set ks i k) ls ds (passedVariable ds w k)
+
+-- at an abstraction that binds x
+pub record AtAbstraction (s : List ℕ) (f : ℕ) (c : Code) (i : ℕ) (ks ls ds : List ℕ) (w : Walk) (x : ℕ) : Type 0 where
+  pub bound-from : f ≤ x
+  pub number-fits : x - f < length ls
+  pub small : Small w 16384
+  pub again : Walks s f c (i + 1) ks (set ls (x - f) (w .depth)) ds (passedAbstraction w)
+
+-- at an application
+pub record AtApplication (s : List ℕ) (f : ℕ) (c : Code) (i : ℕ) (ks ls ds : List ℕ) (w : Walk) : Type 0 where
+  pub stack-fits : w .pending < length ds
+  pub small : Small w 16384
+  pub again : Walks s f c (i + 1) ks ls (set ds (w .pending) (w .depth)) (passedApplication w)
+
 -- the tag and the argument of the first of some nodes; no node has the tag 3
 abbrev firstTag : List Node → ℕ
 firstTag [] = 3
@@ -45,12 +65,12 @@ passed-total ds w k = go (ltb 0 (w .pending))
     go true = refl
     go false = refl
 
-module _ (s : List ℕ) (n f : ℕ) (c : Code) (coded : Coded s n f c) (i : ℕ) (less : i < n) (ks ls ds : List ℕ) (w : Walk) where
+module _ {s : List ℕ} {n f : ℕ} {c : Code} (coded : Coded s n f c) {i : ℕ} (less : i < n) {ks ls ds : List ℕ} {w : Walk} (h : Walks s f c i ks ls ds w) where
   tags-long : i < length (tags s)
   tags-long = omega (arith, bytes.length-tags s (exact (coded .framed)), coded .framed .count)
 
   -- what stands before the walk, once the tag t and the argument m have been read
-  module _ (t m : ℕ) (tag : t ≡ getD (tags s) i 0) (argument : m ≡ getD (arguments s) i 0) where
+  module _ {t m : ℕ} (tag : t ≡ getD (tags s) i 0) (argument : m ≡ getD (arguments s) i 0) where
     abbrev rest : List Node
     rest = drop (i + 1) (nodes s)
 
@@ -61,45 +81,39 @@ module _ (s : List ℕ) (n f : ℕ) (c : Code) (coded : Coded s n f c) (i : ℕ)
     bits-next : (js : List ℕ) (k : ℕ) (bs : List Bool) → i < length js → getD js i 0 ≡ k → take i js ≡ take i ks
         → tokens (take i (tags s)) (take i ks) ++ (token t k ++ bs) ≡ bits 0 (termOf c)
         → tokens (take (i + 1) (tags s)) (take (i + 1) js) ++ bs ≡ bits 0 (termOf c)
-    bits-next js k bs h g same e =
+    bits-next js k bs fits g same e =
         ap (λ l. l ++ bs)
-        (tokens-next (tags s) js i t k tags-long h (sym tag) g ∙ ap (λ l. tokens (take i (tags s)) l ++ token t k) same)
+        (tokens-next (tags s) js i t k tags-long fits (sym tag) g ∙ ap (λ l. tokens (take i (tags s)) l ++ token t k) same)
         ∙ append-assoc (tokens (take i (tags s)) (take i ks)) (token t k) bs ∙ e
 
     total-next : (js : List ℕ) (k total : ℕ) → i < length js → getD js i 0 ≡ k → take i js ≡ take i ks
         → w .total ≡ length (tokens (take i (tags s)) (take i ks)) → total ≡ w .total + length (token t k)
         → total ≡ length (tokens (take (i + 1) (tags s)) (take (i + 1) js))
-    total-next js k total h g same e d =
+    total-next js k total fits g same e d =
         d ∙ ap (λ x. x + length (token t k)) e ∙ sym (length-append (tokens (take i (tags s)) (take i ks)) (token t k))
         ∙ ap length
-        (ap (λ l. tokens (take i (tags s)) l ++ token t k) (sym same) ∙ sym (tokens-next (tags s) js i t k tags-long h (sym tag) g))
+        (ap (λ l. tokens (take i (tags s)) l ++ token t k) (sym same) ∙ sym (tokens-next (tags s) js i t k tags-long fits (sym tag) g))
 
     -- A variable
 
-    pub record AtVariable : Type 0 where
-      pub in-range : Indexable f ls (w .depth) m
-      pub pending-few : w .pending ≤ i
-      pub total-few : w .total ≤ 32770 * i
-      pub again : (k : ℕ) → k ≡ indexOf ls f (w .depth) m → Walks s f c (i + 1) (set ks i k) ls ds (passedVariable ds w k)
-
     -- the code behind a variable is the one on top of the stack
     popped : (k d : ℕ) (todo : List Item) → (w .depth ≡ d) × (w .pending ≡ length todo) × Stacked ds (depthsOf todo) → Here (passedVariable ds w k) ds todo
-    popped k d [] h = tt
-    popped k d (part zs b ∷ todo) h =
-        let q = lt-ltb 0 (w .pending) (omega (arith, h .1)) in
-        let top : w .pending - 1 ≡ length (depthsOf todo) = omega (arith, h .1, length-depths todo) in
+    popped k d [] p = tt
+    popped k d (part zs b ∷ todo) p =
+        let q = lt-ltb 0 (w .pending) (omega (arith, p .1)) in
+        let top : w .pending - 1 ≡ length (depthsOf todo) = omega (arith, p .1, length-depths todo) in
         subst
         (λ x. Here x ds (part zs b ∷ todo))
         (ap
         (λ q. cond q (record { depth = getD ds (w .pending - 1) 0; pending = w .pending - 1; total = w .total + (k + 2) })
         (record { depth = w .depth; pending = w .pending; total = w .total + (k + 2) }))
         (sym q))
-        (ap (λ j. getD ds j 0) top ∙ h .2 .0, omega (arith, h .1), h .2 .1)
+        (ap (λ j. getD ds j 0) top ∙ p .2 .0, omega (arith, p .1), p .2 .1)
 
-    pub at-variable : t ≡ 0 → n ≤ 16384 → n ≤ length ks → n ≤ length ls → Walks s f c i ks ls ds w → AtVariable
-    at-variable zero-tag few long-ks long-ls h = go (h .todo) (h .walking)
+    pub at-variable : t ≡ 0 → n ≤ 16384 → n ≤ length ks → n ≤ length ls → AtVariable s f c i ks ls ds w m
+    at-variable zero-tag few long-ks long-ls = go (h .todo) (h .walking)
       where
-        go : (todo : List Item) → Walking s f c i ks ls ds w todo (h .low) → AtVariable
+        go : (todo : List Item) → Walking s f c i ks ls ds w todo (h .low) → AtVariable s f c i ks ls ds w m
         go [] g = let e = ap firstTag (facing [] (g .nodes-are)) in absurd (omega (arith, e))
         go (part ys (abs x d) ∷ todo) g = let e = ap firstTag (facing (part ys (abs x d) ∷ todo) (g .nodes-are)) in absurd (omega (arith, e))
         go (part ys (app d b) ∷ todo) g = let e = ap firstTag (facing (part ys (app d b) ∷ todo) (g .nodes-are)) in absurd (omega (arith, e))
@@ -151,16 +165,10 @@ module _ (s : List ℕ) (n f : ℕ) (c : Code) (coded : Coded s n f c) (i : ℕ)
 
     -- An abstraction
 
-    pub record AtAbstraction : Type 0 where
-      pub bound-from : f ≤ m
-      pub number-fits : m - f < length ls
-      pub small : Small w 16384
-      pub again : Walks s f c (i + 1) ks (set ls (m - f) (w .depth)) ds (passedAbstraction w)
-
-    pub at-abstraction : t ≡ 1 → n ≤ 16384 → n ≤ length ks → n ≤ length ls → Walks s f c i ks ls ds w → AtAbstraction
-    at-abstraction one-tag few long-ks long-ls h = go (h .todo) (h .walking)
+    pub at-abstraction : t ≡ 1 → n ≤ 16384 → n ≤ length ks → n ≤ length ls → AtAbstraction s f c i ks ls ds w m
+    at-abstraction one-tag few long-ks long-ls = go (h .todo) (h .walking)
       where
-        go : (todo : List Item) → Walking s f c i ks ls ds w todo (h .low) → AtAbstraction
+        go : (todo : List Item) → Walking s f c i ks ls ds w todo (h .low) → AtAbstraction s f c i ks ls ds w m
         go [] g = let e = ap firstTag (facing [] (g .nodes-are)) in absurd (omega (arith, e))
         go (part ys (var x) ∷ todo) g = let e = ap firstTag (facing (part ys (var x) ∷ todo) (g .nodes-are)) in absurd (omega (arith, e))
         go (part ys (app d b) ∷ todo) g = let e = ap firstTag (facing (part ys (app d b) ∷ todo) (g .nodes-are)) in absurd (omega (arith, e))
@@ -224,15 +232,10 @@ module _ (s : List ℕ) (n f : ℕ) (c : Code) (coded : Coded s n f c) (i : ℕ)
 
     -- An application
 
-    pub record AtApplication : Type 0 where
-      pub stack-fits : w .pending < length ds
-      pub small : Small w 16384
-      pub again : Walks s f c (i + 1) ks ls (set ds (w .pending) (w .depth)) (passedApplication w)
-
-    pub at-application : (t ≡ 0 → ⊥) → (t ≡ 1 → ⊥) → n ≤ 16384 → n ≤ length ks → n ≤ length ds → Walks s f c i ks ls ds w → AtApplication
-    at-application not-zero not-one few long-ks long-ds h = go (h .todo) (h .walking)
+    pub at-application : (t ≡ 0 → ⊥) → (t ≡ 1 → ⊥) → n ≤ 16384 → n ≤ length ks → n ≤ length ds → AtApplication s f c i ks ls ds w
+    at-application not-zero not-one few long-ks long-ds = go (h .todo) (h .walking)
       where
-        go : (todo : List Item) → Walking s f c i ks ls ds w todo (h .low) → AtApplication
+        go : (todo : List Item) → Walking s f c i ks ls ds w todo (h .low) → AtApplication s f c i ks ls ds w
         go [] g =
             let e : _≡_ {A = List Node} (record { tag = t; argument = m } ∷ rest) [] = facing [] (g .nodes-are) in
             let z : _≡_ {A = ℕ} 0 1 = cc in

@@ -2,8 +2,10 @@
 use termfile::word;
 ghost use mathlib.Core.Path.{_≡_};
 ghost use Prim.Native.Nat.{_+_, _-_, _≤_, _<_};
-ghost use lib.ListN.{length, set};
+ghost use lib.ListN.{length, getD, set};
 ghost use Rattle.termfile.specs.Code.{Code};
+ghost use Rattle.termfile.specs.File.{arguments};
+ghost use Rattle.termfile.specs.Passes.{Framed};
 ghost use Rattle.exporting.specs.Tokens.{Coded};
 ghost use Rattle.exporting.specs.Measuring.{indexOf, passedVariable, passedAbstraction, passedApplication, Small, Indexable, Measurable, Measures};
 
@@ -13,6 +15,16 @@ pub struct Walk {
     pub depth: usize,
     pub pending: usize,
     pub total: usize,
+}
+
+// The argument of node i.
+fn argument_at(file: &[u8], n: usize, i: usize) -> usize
+    requires { ⌜ Framed (now file) n ⌝ }
+    requires { ⌜ i < n ⌝ }
+    ensures { λ r. ⌜ r ≡ getD (arguments (now (file .entry))) i 0 ⌝ }
+{
+    let at = 4 + n + 2 * i;
+    word(file[at], file[at + 1])
 }
 
 // The index of the name x: a free name is counted from outside all abstractions, and any other from
@@ -105,15 +117,16 @@ pub fn measure(
         let at = i;
         i += 1;
         let tag = file[4 + at];
-        let argument = word(file[4 + n + 2 * at], file[4 + n + 2 * at + 1]);
         match tag {
             0 => {
-                let k = index_of(levels, f, walk.depth, argument);
+                let name = argument_at(file, n, at);
+                let k = index_of(levels, f, walk.depth, name);
                 indices[at] = k as u16;
                 walk = pass_variable(depths, walk, k);
             }
             1 => {
-                walk = pass_abstraction(levels, walk, argument - f);
+                let name = argument_at(file, n, at);
+                walk = pass_abstraction(levels, walk, name - f);
             }
             _ => {
                 walk = pass_application(depths, walk);
