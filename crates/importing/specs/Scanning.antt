@@ -32,7 +32,7 @@ pub record ReadTo (f : ℕ) (s : List ℕ) (n : ℕ) (c : Cursor) (ts ms : List 
   pub arguments-are : take n ms ≡ map (λ node. node .argument) (canonical f term)
   pub few : n ≤ maxNodes
 
-abbrev pub Scans : ℕ → List ℕ → Scanned → List ℕ → List ℕ → Type 0
-Scans f s Cut ts ms = readingOf f s ≡ unread 14
-Scans f s Beyond ts ms = readingOf f s ≡ unread 16
-Scans f s (Read n c) ts ms = ReadTo f s n c ts ms
+abbrev pub Scans : ℕ → List ℕ → List ℕ → List ℕ → Scanned → Type 0
+Scans f s ts ms Cut = readingOf f s ≡ unread 14
+Scans f s ts ms Beyond = readingOf f s ≡ unread 16
+Scans f s ts ms (Read n c) = ReadTo f s n c ts ms

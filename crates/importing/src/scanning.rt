@@ -37,7 +37,7 @@ pub fn scan(
     requires { ⌜ Roomy (length (now bits)) (length (now args)) ⌝ }
     requires { ⌜ Roomy (length (now bits)) (length (now names)) ⌝ }
     requires { ⌜ Roomy (length (now bits)) (length (now apps)) ⌝ }
-    ensures { λ r. ⌜ Scans f (now (bits .entry)) r (now (tags .exit)) (now (args .exit)) ⌝ }
+    ensures { λ r. ⌜ Scans f (now (bits .entry)) (now (tags .exit)) (now (args .exit)) r ⌝ }
 {
     let mut c = Cursor {
         at: 0,
