@@ -38,7 +38,8 @@ enum glow_refusal {
     GLOW_NO_NODES = 9,
     GLOW_NO_NAMES = 10,
     GLOW_NO_RENUMBER = 11,      /* renumber store shorter than the names in use */
-    GLOW_NO_OUTPUT = 12,        /* the term written out exceeds the output */
+    GLOW_NO_OUTPUT = 12,        /* the term written out exceeds the output; of glow_import and glow_export, the result
+                                   is longer than out */
     GLOW_ENTRY = 13,            /* proved never to come */
     GLOW_BITS_TOO_SHORT = 14,   /* glow_import alone: the bits end inside a term, or there are none */
     GLOW_BITS_PADDING = 15,     /* glow_import alone: the padding is not zero, or there is a spare byte */
@@ -61,9 +62,9 @@ enum glow_tag { GLOW_VARIABLE = 0, GLOW_ABSTRACTION = 1, GLOW_APPLICATION = 2 };
 #define GLOW_MOST_FILE_NODES 16384  /* n of a term file, and nodes written out */
 #define GLOW_MOST_COUNTED 32768     /* counted of the node, cell and name stores */
 
-/* Stack. A call takes at most GLOW_STACK_NEEDED(nodes, cells) bytes, where nodes is the shorter length of tags
-   and args, and cells the shortest of codes, owns and nexts: 2,072,576 with the program's stores, and
-   GLOW_MOST_STACK_NEEDED, 4,038,656, with the largest. For counting and writing a result call themselves, no
+/* Stack. A call of glow_evaluate takes at most GLOW_STACK_NEEDED(nodes, cells) bytes, where nodes is the shorter
+   length of tags and args, and cells the shortest of codes, owns and nexts: 2,072,576 with the program's stores,
+   and GLOW_MOST_STACK_NEEDED, 4,038,656, with the largest. For counting and writing a result call themselves, no
    deeper than there are cells, nor than one for each four nodes. On a thread with less a term that is nested
    deeply enough overflows the stack, which ends the process. */
 #define GLOW_STACK_FOR_A_CALL 106496

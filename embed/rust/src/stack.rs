@@ -1,6 +1,6 @@
 //! How much stack a call takes, and whether the thread that it is made on has as much left.
 //!
-//! # How deep the calls go
+//! # How deep the calls of an evaluation go
 //!
 //! The library counts a result before it writes it. Both walk over codes and along chains of names in loops, and call
 //! themselves where a name has an entry to be unfolded, or an item has a stack of its own and is not the last of its
@@ -19,20 +19,23 @@
 //! - an item with a stack of its own, not the last of its stack: of its cell and of the next one the enter and the first node.
 //!
 //! Only a name that is the whole result has three, and the deepest call has one more that is not in the list.
+//!
+//! No function of an import or an export calls itself: see [`STACK_FOR_AN_EXCHANGE`](crate::STACK_FOR_AN_EXCHANGE).
 
 use std::ops::Range;
 
-/// Bytes of stack that a call takes whatever the stores are: for arrays of its own, the first level of counting and
-/// writing, and the C library where it binds a name at its first use.
+/// Bytes of stack that an evaluation takes whatever the stores are: for arrays of its own, the first level of counting
+/// and writing, and the C library where it binds a name at its first use.
 pub const STACK_FOR_A_CALL: usize = 106_496;
 
 /// Bytes of stack that each further level of counting or writing takes.
 pub const STACK_FOR_A_LEVEL: usize = 480;
 
-/// The most that any stores make a call take.
+/// The most that any stores make an evaluation take.
 pub const MOST_STACK_NEEDED: usize = stack_needed(super::MOST_COUNTED, super::MOST_COUNTED);
 
-/// The most bytes of stack that a call takes with stores of so many nodes and cells. A store is as long as its shortest array.
+/// The most bytes of stack that an evaluation takes with stores of so many nodes and cells. A store is as long as its
+/// shortest array.
 ///
 /// There are no more levels than cells, nor than one for each four nodes.
 pub const fn stack_needed(nodes: usize, cells: usize) -> usize {

@@ -51,13 +51,17 @@ fn mistakes_are_found_out() {
     found_out(constants, "`GLOW_MOST_EXPORTED` |", "`GLOW_MOST_IMPORTED` |");
     found_out(sentences, "2,072,576", "2,072,577");
     found_out(sentences, "| name store | 32,768 |", "| name store | 16,384 |");
+    found_out(sentences, "fewer than 2 elements the status is 4", "fewer than 3 elements the status is 4");
     found_out(arrays, "`owns`, `nexts` |", "`nexts`, `owns` |");
     found_out(arrays, "| 32,768 | enter |", "| 16,384 | enter |");
     found_out(promises, "| `demand1` |", "| `demand2` |");
     found_out(promises, "`stores-lengths`, ", "");
     found_out(promises, "| `file-back` |", "| `bits-back` |");
     found_out(promises, "| `output-is` |", "| `answer-is` |");
+    found_out(promises, "| `names-kept` |", "| `names` |");
+    found_out(promises, "`short-output` |", "`short-memory` |");
     found_out(definitions, "[`harmony`]", "[`harmonies`]");
+    found_out(definitions, "[`exchangeStatus`]", "[`statusOf`]");
     found_out(|text| links_lead(&root().join("docs/REFERENCE.md"), text), "specs/Calculus.antt", "specs/Calculs.antt");
     found_out(|text| links_lead(&root().join("docs/REFERENCE.md"), text), "(#sources)", "(#source)");
     let kinds = |text: &str| pairs(text).map(|pairs| pairs.len());
