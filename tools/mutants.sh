@@ -17,7 +17,7 @@ cd "$scratch/src"
 export CARGO_TARGET_DIR="$scratch/target" GLOW_LIB_DIR="$scratch/lib" GLOW_RANDOM_TERMS=3000 RUST_BACKTRACE=0
 seconds=180
 machine=bench/plain/src/lib.rs
-exchange=tests/mock/src/exchange.rs
+exchange=bench/plain/src/exchange.rs
 calls=tests/mock/src/lib.rs
 faults=0 by_assertion=0 by_crash=0 by_time=0 wrong=0
 
@@ -162,51 +162,51 @@ try "an argument of an application unchecked" "if at != k + 1 { return 5; }" "if
 source=$exchange
 tests=(--test binary)
 
-try "import: bits from the lowest" ">> (7 - at % 8)" ">> (at % 8)"
-try "export: bits from the lowest" "128 >> (at % 8)" "1 << (at % 8)"
-try "import and export: bits from the lowest" ">> (7 - at % 8)" ">> (at % 8)" "128 >> (at % 8)" "1 << (at % 8)"
-try "import: k ones for k + 1" "(ones - 1, around.len())" "(ones, around.len())"
-try "import and export: k + 2 ones for k + 1" "(ones - 1, around.len())" "(ones.max(2) - 2, around.len())" "0..index + 1" "0..index + 2"
-try "import and export: the two kinds of node swapped" "1 + bit(bytes, at - 1)?" "2 - bit(bytes, at - 1)?" "next(tag == 2);" "next(tag == 1);"
-try "import: ones counted in 16 bits" "ones += 1;" "ones = (ones + 1) % 65_536;"
-try "import: no bits refused as a spare byte would be" "    let f = f as usize;
-    let mut tags" "    if bytes.is_empty() { return Err(15); }
-    let f = f as usize;
-    let mut tags"
-try "import: the padding not looked at" "if bit(bytes, at)? == 1 { return Err(15); }" ""
-try "import: a spare byte not looked at" "if at / 8 < bytes.len() { return Err(15); }" ""
-try "import: a spare byte of zeros accepted" "if at / 8 < bytes.len()" "if bytes[at / 8..].iter().any(|&byte| byte != 0)"
-try "import: 12 before 15" "    while at % 8 != 0 {" "    if out.len() < 4 + 3 * tags.len() { return Err(12); }
-    while at % 8 != 0 {"
-try "import: 15 before 16" "if k >= m + f { return Err(16); }" "if k >= m + f { return Err(if at.div_euclid(8) + 1 < bytes.len() { 15 } else { 16 }); }"
-try "import: 16 at the first bit of the node beyond" "        let mut ones = 0;" "        if tags.len() == MOST { bit(bytes, at)?; return Err(16); }
-        let mut ones = 0;"
-try "import: 16 at the first one too many" "ones += 1; at += 1; }" "ones += 1; at += 1; if ones > around.len() + f { return Err(16); } }"
-try "import: only 16383 nodes" "tags.len() == MOST " "tags.len() == MOST - 1 "
-try "import: 16385 nodes" "tags.len() == MOST " "tags.len() == MOST + 1 "
-try "import: the free name f" "k >= m + f " "k > m + f "
-try "import: the last free name refused" "k >= m + f " "k + 1 >= m + f && k >= m "
-try "import: f below 16384" "f > MOST as u32" "f >= MOST as u32"
-try "import: f to 16385" "f > MOST as u32" "f > MOST as u32 + 1"
-try "import: f read with 16 bits" "f > MOST as u32" "f as u16 > MOST as u16" "let f = f as usize;" "let f = f as u16 as usize;"
-try "import: 2 tested last" "if f > MOST as u32 { return Err(2); }" "" "    let n = tags.len();" "    if f > MOST { return Err(2); }
+try "import: bits from the lowest" "byte & 0x80 >> (self.at % 8)" "byte & 1 << (self.at % 8)"
+try "export: bits from the lowest" "|= 0x80 >> (self.at % 8)" "|= 1 << (self.at % 8)"
+try "import and export: bits from the lowest" "byte & 0x80 >> (self.at % 8)" "byte & 1 << (self.at % 8)" "|= 0x80 >> (self.at % 8)" "|= 1 << (self.at % 8)"
+try "import: k ones for k + 1" "let mut index = 0;" "let mut index = 1;"
+try "import and export: k + 2 ones for k + 1" "{ index += 1; }" "{ index += 1; }
+            index = index.max(1) - 1;" "ones.push(index + 1);" "ones.push(index + 2);" "length += index + 2;" "length += index + 3;"
+try "import and export: the two kinds of node swapped" "let is_application = reader" "let is_application = !reader" "1 => { writer.bit(false);" "2 => { writer.bit(false);"
+try "import: ones counted in 16 bits" "index += 1;" "index = (index + 1) % 65_536;"
+try "import: no bits refused as a spare byte would be" "if f > MOST { return Err(2); }" "if f > MOST { return Err(2); }
+    if bits.is_empty() { return Err(15); }"
+try "import: the padding not looked at" "while let Some(bit) = reader.bit() { if bit { return Err(15); } }" ""
+try "import: a spare byte not looked at" "if 8 * bits.len() - reader.at >= 8 { return Err(15); }" "" "while let Some(bit) = reader.bit() { if bit {" "while reader.at % 8 != 0 { if reader.bit() == Some(true) {"
+try "import: a spare byte of zeros accepted" "if 8 * bits.len() - reader.at >= 8 { return Err(15); }" ""
+try "import: 12 before 15" "    if 8 * bits.len() - reader.at >= 8" "    if out.len() < 4 + 3 * tags.len() { return Err(12); }
+    if 8 * bits.len() - reader.at >= 8"
+try "import: 15 before 16" "            if tags.len() == MOST || index" "            if index >= around.len() + f && 8 * bits.len() - reader.at >= 8 { return Err(15); }
+            if tags.len() == MOST || index"
+try "import: 16 at the first bit of the node beyond" "    loop {" "    loop {
+        if tags.len() == MOST { reader.bit().ok_or(14u32)?; return Err(16); }"
+try "import: 16 at the first one too many" "while reader.bit().ok_or(14u32)?" "while index < around.len() + f && reader.bit().ok_or(14u32)?"
+try "import: only 16383 nodes" "tags.len() == MOST ||" "tags.len() == MOST - 1 ||" "tags.len() == MOST {" "tags.len() == MOST - 1 {"
+try "import: 16385 nodes" "tags.len() == MOST ||" "tags.len() == MOST + 1 ||" "tags.len() == MOST {" "tags.len() == MOST + 1 {"
+try "import: the free name f" "index >= around.len() + f " "index > around.len() + f "
+try "import: the last free name refused" "index >= around.len() + f " "index + 1 >= around.len() + f && index >= around.len() "
+try "import: f below 16384" "f > MOST" "f >= MOST"
+try "import: f to 16385" "f > MOST" "f > MOST + 1"
+try "import: f read with 16 bits" "let f = f as usize;" "let f = f as u16 as usize;"
+try "import: 2 tested last" "if f > MOST { return Err(2); }" "" "    let n = tags.len();" "    if f > MOST { return Err(2); }
     let n = tags.len();"
-try "import: a right part below the left part's abstractions" "around.truncate(m);" ""
+try "import: a right part below the left part's abstractions" "around.truncate(depth);" ""
 try "import: off by one in the output" "out.len() < 4 + 3 * n" "out.len() <= 4 + 3 * n"
-try "import: written before it is known to fit" "    if out.len() < 4 + 3 * n" "    if out.len() > 3 { put(out, 0, f); put(out, 2, n); }
+try "import: written before it is known to fit" "    if out.len() < 4 + 3 * n" "    if out.len() > 3 { out[..2].copy_from_slice(&(f as u16).to_le_bytes()); out[2..4].copy_from_slice(&(n as u16).to_le_bytes()); }
     if out.len() < 4 + 3 * n"
 try "import: a byte past the file changed" "    Ok(4 + 3 * n)" "    if let Some(next) = out.get_mut(4 + 3 * n) { *next ^= 1; }
     Ok(4 + 3 * n)"
-try "export: free names without the abstractions around" "if x < f { m + x }" "if x < f { x }"
-try "export: abstractions around a right part not forgotten" "m = due.pop().unwrap_or(0);" "due.pop();"
+try "export: free names without the abstractions around" "if name < f { around + name }" "if name < f { name }"
+try "export: abstractions around a right part not forgotten" "if let Some(depth) = due.pop() { around = depth; }" "due.pop();"
 try "export: 12 before 1 to 7" "    if refusal != 0" "    if out.is_empty() { return Err(12); }
     if refusal != 0"
-try "export: a whole byte of padding" "(bits(file, |_, _| {}) + 7) / 8" "bits(file, |_, _| {}) / 8 + 1"
-try "export: off by one in the output" "out.len() < written" "out.len() <= written"
-try "export: written before it is known to fit" "    if out.len() < written" "    if let Some(first) = out.first_mut() { *first = 0; }
-    if out.len() < written"
-try "export: all of the output zeroed" "out[..written].fill(0);" "out.fill(0);"
-try "export: the output not zeroed" "out[..written].fill(0);" ""
+try "export: a whole byte of padding" "(length + 7) / 8" "length / 8 + 1"
+try "export: off by one in the output" "out.len() < bytes" "out.len() <= bytes"
+try "export: written before it is known to fit" "    if out.len() < bytes" "    if let Some(first) = out.first_mut() { *first = 0; }
+    if out.len() < bytes"
+try "export: all of the output zeroed" "out[..bytes].fill(0);" "out.fill(0);"
+try "export: the output not zeroed" "out[..bytes].fill(0);" ""
 
 source=$calls
 try "import and export: a third element of the report written" "    report[1] = written;" "    report[1] = written;

@@ -4,7 +4,7 @@ use crate::calculus::{from_file, to_canonical, Term};
 use crate::file::{check, MOST};
 use std::rc::Rc;
 
-/// The most bytes that an export has: see `most_exported`.
+/// The most bytes that an export has: see `most_bits`.
 pub const MOST_EXPORTED: usize = 16_781_312;
 
 /// The bits of bytes: "Bits fill bytes from the highest".

@@ -1,5 +1,6 @@
 //! Binary lambda calculus in ordinary, unproved Rust, bit by bit. A benchmark compares the speed of the library's import
-//! and export with this. Both answer the number of bytes written to `out`, or the number of a refusal, which writes nothing.
+//! and export with this; `mock` has it behind the library's own C functions. Both answer the number of bytes written to
+//! `out`, or the number of a refusal, which writes nothing.
 use crate::{check, word};
 
 const MOST: usize = 16_384;

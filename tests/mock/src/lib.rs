@@ -1,6 +1,4 @@
-mod exchange;
-
-use plain::{evaluate, Lent};
+use plain::{evaluate, exchange, Lent};
 
 /// A slice of a pointer that may be null where the length is 0.
 unsafe fn slice<'a, T>(start: *const T, len: usize) -> &'a [T] { if len == 0 { &[] } else { std::slice::from_raw_parts(start, len) } }
@@ -30,11 +28,11 @@ pub unsafe extern "C" fn glow_evaluate(
 }
 
 /// The status of an import or an export, and the first two elements of the report.
-fn exchanged(work: impl FnOnce() -> Result<usize, u64>, report: &mut [u64]) -> u32 {
+fn exchanged(work: impl FnOnce() -> Result<usize, u32>, report: &mut [u64]) -> u32 {
     if report.len() < 2 { return 4; }
     // as above where a wrong exchange panics
     let Ok(answer) = std::panic::catch_unwind(std::panic::AssertUnwindSafe(work)) else { return 99 };
-    let (status, refusal, written) = match answer { Ok(written) => (0, 0, written as u64), Err(refusal) => (3, refusal, 0) };
+    let (status, refusal, written) = match answer { Ok(written) => (0, 0, written as u64), Err(refusal) => (3, refusal.into(), 0) };
     report[0] = refusal;
     report[1] = written;
     status

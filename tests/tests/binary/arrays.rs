@@ -22,7 +22,8 @@ fn imports() -> Vec<(&'static [u8], u32, Result<(), u8>)> {
         (&[0xFF], 0, Err(14)),       // ones that go on
         (&[0x46], 1, Err(14)),       // case f's first byte
         (&[0x46, 0x74], 1, Err(14)), // and its second
-        (&[0x06], 0, Err(14)),       // an abstraction, an application, its left part, and the first half of a node
+        (&[0x06], 0, Err(14)),       // two abstractions, an application and its left part
+        (&[0x1C], 1, Err(14)),       // an abstraction, an application, its left part, and the first half of a node
         (&[0x21], 0, Err(15)),
         (&[0x2F], 0, Err(15)),
         (&[0xBF], 1, Err(15)),
@@ -34,7 +35,7 @@ fn imports() -> Vec<(&'static [u8], u32, Result<(), u8>)> {
         (&[0xBF], 0, Err(16)), // before the padding is looked at
         (&[0x80, 0x00], 0, Err(16)),
         (&[0x60], 0, Err(16)), // an application of it, which the bits end inside
-        (&[0x38], 0, Err(16)), // under an abstraction, one too far out
+        (&[0x30], 0, Err(16)), // under an abstraction, one too far out
         (&[0xC0], 1, Err(16)),
     ]
 }

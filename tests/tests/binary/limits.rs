@@ -117,7 +117,7 @@ fn runs_of_ones() {
 /// More bits than a number of 32 bits can count: 2^32 ones and a few more, with a zero behind them and without.
 #[cfg(feature = "library")]
 #[test]
-#[ignore = "takes 512 MiB, and a minute"]
+#[ignore = "takes 512 MiB, and 10 to 30 seconds"]
 fn ones_beyond_32_bits() {
     let mut bits = Vec::with_capacity((1 << 29) + 1);
     bits.resize(1 << 29, 0xFF);
