@@ -5,8 +5,8 @@ ghost use Rattle.importing.specs.Ahead.{ahead, Sound, bitOf, taken, Bitw
 
 pub struct Cursor {
     pub at: usize,
-    pub byte: u8,
-    pub left: u8,
+    pub byte: u32,
+    pub left: u32,
 }
 
 // The next bit, and the cursor behind it; or that there is none.
@@ -17,7 +17,7 @@ pub enum Bit {
 }
 
 // The next bit of a byte of which `left` bits are left.
-fn bit_of(at: usize, byte: u8, left: u8) -> Bit
+fn bit_of(at: usize, byte: u32, left: u32) -> Bit
     requires { ⌜ 1 ≤ left ⌝ }
     requires { ⌜ left ≤ 8 ⌝ }
     ensures { λ r. ⌜ r ≡ bitOf at byte (left - 1) ⌝ }
@@ -49,5 +49,5 @@ pub fn next_bit(bits: &[u8], c: Cursor) -> Bit
     if at >= bits.len() {
         return Bit::End;
     }
-    bit_of(at + 1, bits[at], 8)
+    bit_of(at + 1, bits[at] as u32, 8)
 }

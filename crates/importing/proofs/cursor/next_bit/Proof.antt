@@ -25,6 +25,9 @@ add-bit-of c = search needs
 shared-slice-read-bit-of : tie.Need-shared-slice-read-bit-of
 shared-slice-read-bit-of c = search needs
 
+cast-bit-of : tie.Need-cast-bit-of
+cast-bit-of c = omega (arith, c .shared-slice-known2 .given (c .before .before .before .before .args .c .at))
+
 bit-of-requires-2 : tie.Need-bit-of-requires-2
 bit-of-requires-2 c κs = search needs
 
@@ -42,5 +45,6 @@ next-bit-spec =
     returns-2
     add-bit-of
     shared-slice-read-bit-of
+    cast-bit-of
     bit-of-requires-2
     returns-3)
