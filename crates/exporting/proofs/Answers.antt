@@ -16,14 +16,14 @@ use Rattle.termfile.proofs.Reading.{read-write}
 use Rattle.termfile.proofs.Acceptance as acceptance
 use Rattle.binary.specs.Bits.{bits, pack}
 use Rattle.binary.specs.Answer.{number, bytes, bitsUnless, exported}
-use Rattle.exporting.specs.Measuring.{Measurable}
+use Rattle.exporting.specs.Measuring.{Measurable, Enough}
 use Rattle.termfile.specs.declared.Counts.{Counts}
 
 pub refused-number : (s : List ℕ) (n : ℕ) → refusal s ≡ some n → exported s ≡ number n
 refused-number s n e = ap (λ o. bitsUnless o s) e
 
 -- an accepted file in arrays that have room
-pub measurable : (s : List ℕ) (r : Counts) → refusal s ≡ none → r ≡ counts s → (ks ls ds : List ℕ) → r .nodes ≤ length ks → r .nodes ≤ length ls
+measurable : (s : List ℕ) (r : Counts) → refusal s ≡ none → r ≡ counts s → (ks ls ds : List ℕ) → r .nodes ≤ length ks → r .nodes ≤ length ls
     → r .nodes ≤ length ds → Measurable s (r .nodes) (r .free) ks ls ds
 measurable s r e counted ks ls ds long-ks long-ls long-ds =
     let file = acceptance.accepted s e in
@@ -60,3 +60,7 @@ pub tags-part : {s : List ℕ} {n : ℕ} → Framed s n → take (4 + n - 4) (dr
 tags-part {s} {n} h =
     let e : 4 + n - 4 ≡ nodeCount s = omega (arith, h .count) in
     ap (λ k. take k (drop 4 s)) e
+
+pub enough : (s : List ℕ) (r : Counts) → refusal s ≡ none → r ≡ counts s → Enough s (r .nodes) (r .free)
+enough s r e counted =
+    record { few = omega (arith, acceptance.accepted s e .nodes-limit, ap (λ k. k .nodes) counted); measurable = measurable s r e counted }

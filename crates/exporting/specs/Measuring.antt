@@ -8,7 +8,7 @@ use lib.Dec.{ltb}
 use lib.ListN.{length, getD, take}
 use Rattle.termfile.specs.Code.{Code}
 use Rattle.termfile.specs.Meaning.{termOf}
-use Rattle.termfile.specs.File.{tags}
+use Rattle.termfile.specs.File.{maxNodes, tags}
 use Rattle.binary.specs.Bits.{bits}
 use Rattle.exporting.specs.Tokens.{tokens, Coded}
 use Rattle.exporting.specs.declared.measuring.Walk.{Walk}
@@ -43,6 +43,11 @@ pub record Measurable (s : List ℕ) (n f : ℕ) (ks ls ds : List ℕ) : Type 0 
   pub indices-long : n ≤ length ks
   pub levels-long : n ≤ length ls
   pub depths-long : n ≤ length ds
+
+-- the same in whatever arrays that are long enough; a file has at most 16,384 nodes
+pub record Enough (s : List ℕ) (n f : ℕ) : Type 0 where
+  pub few : n ≤ maxNodes
+  pub measurable : (ks ls ds : List ℕ) → n ≤ length ks → n ≤ length ls → n ≤ length ds → Measurable s n f ks ls ds
 
 -- the number of bits, and an index for each variable, by which they are put
 pub record Measures (s : List ℕ) (n : ℕ) (ks : List ℕ) (c : Code) (r : ℕ) : Type 0 where

@@ -16,16 +16,14 @@ use termfile::Checked;
 use termfile::check;
 use writing::write_bits;
 ghost use mathlib.Core.Path.{_≡_};
+ghost use Prim.Native.Nat.{_≤_};
 ghost use mathlib.Core.Option.{none};
 ghost use Rattle.termfile.specs.File.{refusal};
 ghost use Rattle.binary.specs.Answer.{exported, Converts};
-ghost use Rattle.exporting.specs.Measuring.{Measurable};
+ghost use Rattle.exporting.specs.Measuring.{Measurable, Enough};
 
-// The most nodes of a term file; and of one that is measured in small arrays: to zero the large ones
-// takes longer than all else that a small file asks for.
+// The most nodes of a term file.
 const MAX_NODES: usize = 16384;
-
-const SMALL: usize = 256;
 
 // Writes the bits of a file with f free names and n nodes, where the output has room for them. The
 // arrays are for its own use.
@@ -52,6 +50,43 @@ fn export_in(
     Converted::Written(bytes)
 }
 
+// The same with arrays of its own, for files of at most 64 nodes, at most 1,024, and any. To zero large
+// arrays takes longer than all else that a small file asks for.
+fn export_small(file: &[u8], n: usize, f: usize, out: &mut [u8]) -> Converted
+    requires { ⌜ refusal (now file) ≡ none ⌝ }
+    requires { ⌜ Enough (now file) n f ⌝ }
+    requires { ⌜ n ≤ 64 ⌝ }
+    ensures { λ r. ⌜ Converts (exported (now (file .entry))) r (now (out .entry)) (now (out .exit)) ⌝ }
+{
+    let mut indices = [0u16; 64];
+    let mut levels = [0u16; 64];
+    let mut depths = [0u16; 64];
+    export_in(file, n, f, &mut indices, &mut levels, &mut depths, out)
+}
+
+fn export_middle(file: &[u8], n: usize, f: usize, out: &mut [u8]) -> Converted
+    requires { ⌜ refusal (now file) ≡ none ⌝ }
+    requires { ⌜ Enough (now file) n f ⌝ }
+    requires { ⌜ n ≤ 1024 ⌝ }
+    ensures { λ r. ⌜ Converts (exported (now (file .entry))) r (now (out .entry)) (now (out .exit)) ⌝ }
+{
+    let mut indices = [0u16; 1024];
+    let mut levels = [0u16; 1024];
+    let mut depths = [0u16; 1024];
+    export_in(file, n, f, &mut indices, &mut levels, &mut depths, out)
+}
+
+fn export_large(file: &[u8], n: usize, f: usize, out: &mut [u8]) -> Converted
+    requires { ⌜ refusal (now file) ≡ none ⌝ }
+    requires { ⌜ Enough (now file) n f ⌝ }
+    ensures { λ r. ⌜ Converts (exported (now (file .entry))) r (now (out .entry)) (now (out .exit)) ⌝ }
+{
+    let mut indices = [0u16; MAX_NODES];
+    let mut levels = [0u16; MAX_NODES];
+    let mut depths = [0u16; MAX_NODES];
+    export_in(file, n, f, &mut indices, &mut levels, &mut depths, out)
+}
+
 // Exports the term of a file: writes its bits at the front of `out`, the last byte filled with zeros,
 // and answers how many bytes they take, or answers why not and writes nothing. Nothing past them
 // changes.
@@ -65,32 +100,13 @@ pub fn export(file: &[u8], out: &mut [u8]) -> Converted
         Checked::Refused(why) => Converted::Refused(Refusal::File(why)),
         Checked::Accepted(counts) => {
             let n = counts.nodes;
-            if n <= SMALL {
-                let mut indices = [0u16; SMALL];
-                let mut levels = [0u16; SMALL];
-                let mut depths = [0u16; SMALL];
-                return export_in(
-                    file,
-                    n,
-                    counts.free,
-                    &mut indices,
-                    &mut levels,
-                    &mut depths,
-                    out,
-                );
+            if n <= 64 {
+                return export_small(file, n, counts.free, out);
             }
-            let mut indices = [0u16; MAX_NODES];
-            let mut levels = [0u16; MAX_NODES];
-            let mut depths = [0u16; MAX_NODES];
-            export_in(
-                file,
-                n,
-                counts.free,
-                &mut indices,
-                &mut levels,
-                &mut depths,
-                out,
-            )
+            if n <= 1024 {
+                return export_middle(file, n, counts.free, out);
+            }
+            export_large(file, n, counts.free, out)
         }
     }
 }

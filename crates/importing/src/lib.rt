@@ -33,12 +33,6 @@ const MAX_FREE: usize = 16384;
 
 const MAX_NODES: usize = 16384;
 
-// Bits of at most 64 bytes are scanned in small arrays: to zero the large ones takes longer than all
-// else that they ask for. A node takes at least two bits, so that they have at most 256.
-const SMALL_BYTES: usize = 64;
-
-const SMALL_NODES: usize = 256;
-
 // Writes the file, where there is a term and the output has room for it. The arrays are for its own use.
 fn import_in(
     bits: &[u8],
@@ -73,6 +67,44 @@ fn import_in(
     }
 }
 
+// The same with arrays of its own, for bits of at most 16 bytes, at most 256, and any. A node takes at
+// least two bits, so that they have at most 64 nodes, 1,024, and as many as a file may have. To zero
+// large arrays takes longer than all else that a small term asks for.
+fn import_small(bits: &[u8], f: usize, out: &mut [u8]) -> Converted
+    requires { ⌜ f ≤ maxFree ⌝ }
+    requires { ⌜ length (now bits) ≤ 16 ⌝ }
+    ensures { λ r. ⌜ Converts (imported f (now (bits .entry))) r (now (out .entry)) (now (out .exit)) ⌝ }
+{
+    let mut tags = [0u8; 64];
+    let mut args = [0u16; 64];
+    let mut names = [0u16; 64];
+    let mut apps = [0u16; 64];
+    import_in(bits, f, &mut tags, &mut args, &mut names, &mut apps, out)
+}
+
+fn import_middle(bits: &[u8], f: usize, out: &mut [u8]) -> Converted
+    requires { ⌜ f ≤ maxFree ⌝ }
+    requires { ⌜ length (now bits) ≤ 256 ⌝ }
+    ensures { λ r. ⌜ Converts (imported f (now (bits .entry))) r (now (out .entry)) (now (out .exit)) ⌝ }
+{
+    let mut tags = [0u8; 1024];
+    let mut args = [0u16; 1024];
+    let mut names = [0u16; 1024];
+    let mut apps = [0u16; 1024];
+    import_in(bits, f, &mut tags, &mut args, &mut names, &mut apps, out)
+}
+
+fn import_large(bits: &[u8], f: usize, out: &mut [u8]) -> Converted
+    requires { ⌜ f ≤ maxFree ⌝ }
+    ensures { λ r. ⌜ Converts (imported f (now (bits .entry))) r (now (out .entry)) (now (out .exit)) ⌝ }
+{
+    let mut tags = [0u8; MAX_NODES];
+    let mut args = [0u16; MAX_NODES];
+    let mut names = [0u16; MAX_NODES];
+    let mut apps = [0u16; MAX_NODES];
+    import_in(bits, f, &mut tags, &mut args, &mut names, &mut apps, out)
+}
+
 // Imports the bits of a term with f free names: writes its file at the front of `out` and answers
 // how many bytes it has, or answers why not and writes nothing. Nothing past the file changes.
 //
@@ -85,16 +117,11 @@ pub fn import(bits: &[u8], f: usize, out: &mut [u8]) -> Converted
     if f > MAX_FREE {
         return Converted::Refused(Refusal::File(termfile::Refusal::Limits));
     }
-    if bits.len() <= SMALL_BYTES {
-        let mut tags = [0u8; SMALL_NODES];
-        let mut args = [0u16; SMALL_NODES];
-        let mut names = [0u16; SMALL_NODES];
-        let mut apps = [0u16; SMALL_NODES];
-        return import_in(bits, f, &mut tags, &mut args, &mut names, &mut apps, out);
+    if bits.len() <= 16 {
+        return import_small(bits, f, out);
     }
-    let mut tags = [0u8; MAX_NODES];
-    let mut args = [0u16; MAX_NODES];
-    let mut names = [0u16; MAX_NODES];
-    let mut apps = [0u16; MAX_NODES];
-    import_in(bits, f, &mut tags, &mut args, &mut names, &mut apps, out)
+    if bits.len() <= 256 {
+        return import_middle(bits, f, out);
+    }
+    import_large(bits, f, out)
 }

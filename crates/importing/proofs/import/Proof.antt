@@ -1,4 +1,4 @@
--- `import` meets its contract: f is tested first, and the arrays have room for each node that the bits can have.
+-- `import` meets its contract: f is tested first.
 -- Assumes nothing.
 use borrow.Author.Needs.{needs}
 use Rattle.termfile.specs.declared.Refusal.the-variants.{Limits}
@@ -13,20 +13,8 @@ returns c =
     let a = c .before .before .before .args in
     converts-refused (File Limits) (a .out .now) (many-free (a .f) (a .bits .now) (c .if1 .taken))
 
-slice-aggregate-import-in : tie.Need-slice-aggregate-import-in
-slice-aggregate-import-in c = search needs
-
-slice-aggregate-import-in-2 : tie.Need-slice-aggregate-import-in-2
-slice-aggregate-import-in-2 c = search needs
-
-slice-aggregate-import-in-3 : tie.Need-slice-aggregate-import-in-3
-slice-aggregate-import-in-3 c = search needs
-
-slice-aggregate-import-in-4 : tie.Need-slice-aggregate-import-in-4
-slice-aggregate-import-in-4 c = search needs
-
-import-in-requires : tie.Need-import-in-requires
-import-in-requires c κs = search needs
+import-small-requires : tie.Need-import-small-requires
+import-small-requires c κs = search needs
 
 same-length : tie.Need-same-length
 same-length c = search needs
@@ -34,20 +22,8 @@ same-length c = search needs
 returns-2 : tie.Need-returns-2
 returns-2 c = search needs
 
-slice-aggregate-import-in-5 : tie.Need-slice-aggregate-import-in-5
-slice-aggregate-import-in-5 c = search needs
-
-slice-aggregate-import-in-6 : tie.Need-slice-aggregate-import-in-6
-slice-aggregate-import-in-6 c = search needs
-
-slice-aggregate-import-in-7 : tie.Need-slice-aggregate-import-in-7
-slice-aggregate-import-in-7 c = search needs
-
-slice-aggregate-import-in-8 : tie.Need-slice-aggregate-import-in-8
-slice-aggregate-import-in-8 c = search needs
-
-import-in-requires-2 : tie.Need-import-in-requires-2
-import-in-requires-2 c κs = search needs
+import-middle-requires : tie.Need-import-middle-requires
+import-middle-requires c κs = search needs
 
 same-length-2 : tie.Need-same-length-2
 same-length-2 c = search needs
@@ -55,22 +31,26 @@ same-length-2 c = search needs
 returns-3 : tie.Need-returns-3
 returns-3 c = search needs
 
+import-large-requires : tie.Need-import-large-requires
+import-large-requires c κs = search needs
+
+same-length-3 : tie.Need-same-length-3
+same-length-3 c = search needs
+
+returns-4 : tie.Need-returns-4
+returns-4 c = search needs
+
 pub import-spec : {M : Type 1} → statement M
 import-spec =
     tie.close
     (tie.spec
     returns
-    slice-aggregate-import-in
-    slice-aggregate-import-in-2
-    slice-aggregate-import-in-3
-    slice-aggregate-import-in-4
-    import-in-requires
+    import-small-requires
     same-length
     returns-2
-    slice-aggregate-import-in-5
-    slice-aggregate-import-in-6
-    slice-aggregate-import-in-7
-    slice-aggregate-import-in-8
-    import-in-requires-2
+    import-middle-requires
     same-length-2
-    returns-3)
+    returns-3
+    import-large-requires
+    same-length-3
+    returns-4)
