@@ -46,6 +46,27 @@ fn nodes() {
     })
 }
 
+/// Each shape at the edges of 64 and 1,024 nodes, and with all bits of 16 and 256 bytes: there the library's arrays change.
+#[test]
+fn sizes_of_arrays() {
+    with_large_stack(|| {
+        for (name, each, shape) in SHAPES {
+            for most in [64, 1024] {
+                for nodes in most - 2..most + 3 {
+                    let turns = (nodes - 1) / each;
+                    let bits = [abstractions(nodes - 1 - each * turns), shape(turns)].concat();
+                    let file = import(&bits, 1).unwrap_or_else(|n| panic!("{name}: refused {n}"));
+                    assert_eq!(file.len(), 4 + 3 * nodes, "{name}");
+                    there_and_back(&file);
+                }
+                for bytes in [most / 4 - 1, most / 4, most / 4 + 1] {
+                    assert_eq!(Given::Bits(&packed(&abstractions(4 * bytes)), 0).check(), Err(14));
+                }
+            }
+        }
+    })
+}
+
 /// 16 is tested at a node's last bit: where the bits end before that, it is 14. The bits end with their bytes.
 #[test]
 fn the_node_beyond() {
