@@ -1,6 +1,5 @@
 // Binary lambda calculus: what the bits of a term are, what import and export answer, and what the
-// partners who exchange terms as bits may rely on. The code that imports and exports is in the
-// crates `importing` and `exporting`; here is what both answer.
+// partners who exchange terms as bits may rely on. The definitions are in specs/; here are the answers.
 ghost use mathlib.Core.Path.{_≡_};
 ghost use Rattle.binary.specs.Answer.{numberOf};
 

@@ -1,2 +1,1 @@
 pub mod Embedding
-pub mod Exchange

@@ -1,13 +1,10 @@
-// The library for programs in other languages: numbers and slices only.
+// The evaluator for programs in other languages: numbers and slices only.
 //
 // `glow_evaluate` evaluates one term file and returns a status: 0 a normal form is written, 1 the budget
 // is spent, 2 the run is refused, 3 the file is refused, 4 the report array has fewer than 12 elements.
 // The report array then begins with: the refusal's number or 0, the nodes written or 0, the steps beta,
 // subst, enter, leave-fun and leave-inert, the nodes, cells and names taken, and the allowances for
-// substs and shifts. Where the file is refused only the number is written. `exchange` has import and
-// export.
-mod exchange;
-
+// substs and shifts. Where the file is refused only the number is written.
 use evaluator::Answer;
 use evaluator::Outcome;
 use evaluator::Report;

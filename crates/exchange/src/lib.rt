@@ -10,7 +10,7 @@ ghost use Prim.Native.Nat.{_≤_};
 ghost use lib.ListN.{length};
 ghost use Rattle.termfile.specs.Output.{overlay};
 ghost use Rattle.binary.specs.Answer.{imported, exported, told};
-ghost use Rattle.embed.specs.Exchange.{exchangeStatus, exchangeNumbers, Exchanged};
+ghost use Rattle.exchange.specs.Exchange.{exchangeStatus, exchangeNumbers, Exchanged};
 
 // Writes the numbers of an answer, and answers its status.
 fn write_converted(answer: Converted, report: &mut [u64]) -> u32

@@ -1,9 +1,9 @@
--- `exchange::glow_import` meets its contract: what `import` promises, with its answer put into numbers.
+-- `glow_import` meets its contract: what `import` promises, with its answer put into numbers.
 -- Assumes nothing.
 use borrow.Author.Needs.{needs}
-use Rattle.embed.proofs.Exchanges.{report-short, report-told}
-use Rattle.embed.proofs.exchange.glow_import.Statement.{statement}
-use Rattle.embed.proofs.exchange.glow_import.Tie as tie
+use Rattle.exchange.proofs.Exchanges.{report-short, report-told}
+use Rattle.exchange.proofs.glow_import.Statement.{statement}
+use Rattle.exchange.proofs.glow_import.Tie as tie
 
 returns : tie.Need-returns
 returns c = report-short (c .before .before .before .before .args .out .now) (c .before .before .before .before .args .report .now) (c .if1 .taken)

@@ -1,9 +1,9 @@
--- `exchange::write_converted` meets its contract: two stores from the front.
+-- `write_converted` meets its contract: two stores from the front.
 -- Assumes nothing.
 use borrow.Author.Needs.{needs}
-use Rattle.embed.proofs.Exchanges.{written-told, refused-told}
-use Rattle.embed.proofs.exchange.write_converted.Statement.{statement}
-use Rattle.embed.proofs.exchange.write_converted.Tie as tie
+use Rattle.exchange.proofs.Exchanges.{written-told, refused-told}
+use Rattle.exchange.proofs.write_converted.Statement.{statement}
+use Rattle.exchange.proofs.write_converted.Tie as tie
 
 enum-known-answer : tie.Need-enum-known-answer
 enum-known-answer c = search needs

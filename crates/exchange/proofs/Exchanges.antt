@@ -11,7 +11,7 @@ use Rattle.binary.specs.Answer.{Result, numberOf, told, Converts}
 use Rattle.binary.specs.declared.Refusal.{Refusal}
 use Rattle.binary.specs.declared.Converted.{Converted}
 use Rattle.binary.specs.declared.Converted.the-variants.{Written, Refused}
-use Rattle.embed.specs.Exchange.{exchangeStatus, exchangeNumbers, Exchanged}
+use Rattle.exchange.specs.Exchange.{exchangeStatus, exchangeNumbers, Exchanged}
 
 pub report-short : {w : Result} (l r : List ℕ) → length r < 2 → Exchanged w 4 l l r r
 report-short l r h =
