@@ -62,9 +62,9 @@ fn write_report(r: Report, report: &mut [u64])
     report[4] = r.enter;
     report[5] = r.leave_fun;
     report[6] = r.leave_inert;
-    report[7] = r.nodes as u64;
-    report[8] = r.cells as u64;
-    report[9] = r.names as u64;
+    report[7] = r.nodes;
+    report[8] = r.cells;
+    report[9] = r.names;
     report[10] = r.subst_allowance;
     report[11] = r.shift_allowance;
 }

@@ -108,9 +108,9 @@ fn write_counts(report: Report) {
     write_number(b", enter ", report.enter);
     write_number(b", leave ", report.leave_fun);
     write_number(b" ", report.leave_inert);
-    write_number(b", store ", report.nodes as u64);
-    write_number(b" ", report.cells as u64);
-    write_number(b" ", report.names as u64);
+    write_number(b", store ", report.nodes);
+    write_number(b" ", report.cells);
+    write_number(b" ", report.names);
     write_number(b", of ", report.subst_allowance);
     write_number(b" ", report.shift_allowance);
 }

@@ -1,21 +1,25 @@
 -- Every answer that `evaluate` gives can be told, and the nodes at the front of the output arrays are those that the call writes. What is
--- used of the demands stands here: the result fits the output, what is written has as many nodes as the outcome says, and the steps are
--- within the budget.
+-- used of the demands stands here: the result fits the output, what is written has as many nodes as the outcome says, and the shifting steps
+-- are within their allowance.
 -- Letters: s are the file's bytes, st the stores' lengths, a is the answer, ns are the nodes written, ts and ms the output arrays.
 -- Assumes nothing.
-use Prim.Native.Nat.{ℕ, _^_, _≤_, _<_, zero-le}
-use mathlib.Core.Path.{_≡_, refl, sym, ap, _∙_, subst₂}
+use Prim.Native.Nat.{ℕ, _+_, _*_, _^_, _≤_, _<_, zero-le}
+use mathlib.Core.Path.{_≡_, refl, sym, ap, subst, _∙_, subst₂}
 use mathlib.Core.List.{List, [], _∷_, map}
+use mathlib.Core.Option.{none}
 use native.Mathlib.Omega.{arith}
+use native.Mathlib.Nat.{le-refl, mul-le-mul-left}
 use lib.ListN.{length, take, drop, length-append, length-map}
-use lib.Seq.{take-append-seam}
+use lib.Seq.{take-append-seam, take-length}
 use Rattle.termfile.specs.Nodes.{Node}
-use Rattle.termfile.specs.File.{pairs}
-use Rattle.machine.specs.Run.{Stores, Run}
+use Rattle.termfile.specs.File.{tags, refusal, count, pairs}
+use Rattle.machine.specs.Steps.{Kind, Move}
+use Rattle.machine.specs.Run.{Stores, Run, counted, shifts, shiftAllowance}
 use Rattle.machine.specs.Conditions.{Condition, result-fits, result-refused, run-spent, run-refused}
 use Rattle.termfile.specs.Output.{overlay}
 use Rattle.machine.specs.Answer.{Outcome, normal, spent, refused, Report, Answer, written, outputLimit}
 use Rattle.machine.specs.Demands.{Demand2, Demand3, Meets, file-refused, file-run}
+use Rattle.stepping.proofs.Loadable.{count-few}
 use Rattle.evaluator.specs.Calling.{told}
 use Rattle.evaluator.specs.Promise.{Memory, storesIn, Called}
 use Rattle.evaluator.specs.declared.Answer as enum
@@ -37,8 +41,28 @@ written-count {q = q} {ns = ns} d = by (q .outcome) refl
     by spent e = sym (ap length (d .unwritten (λ n e′. let z : _≡_ {A = ℕ} 0 1 = cc in omega arith)))
     by (refused k) e = sym (ap length (d .unwritten (λ n e′. let z : _≡_ {A = ℕ} 0 1 = cc in omega arith)))
 
-steps-fit : {s : List ℕ} {budget : ℕ} {st : Stores} {r : Run} {q : Report} → budget < 2 ^ 64 → Demand3 s budget st r q → shiftSum q < 2 ^ 64
-steps-fit few d = omega (arith, d .reported .all, d .is-run .in-budget)
+shifts-are : (ms : List Move) → shifts ms ≡ counted Kind.enter ms + (counted Kind.leave-fun ms + counted Kind.leave-inert ms)
+shifts-are [] = refl
+shifts-are (m ∷ ms) = omega (arith, shifts-are ms)
+
+-- the shifting steps are within their allowance, and that of a budget of 32 bits is a number of 64
+steps-fit : {s : List ℕ} {budget : ℕ} {st : Stores} {r : Run} {q : Report} → refusal s ≡ none → budget < 2 ^ 32 → Demand3 s budget st r q → shiftSum q < 2 ^ 64
+steps-fit {s} {budget} {st} {r} {q} accepts few d =
+    let betas = counted Kind.beta (r .steps) in
+    let within : shifts (r .steps) ≤ shiftAllowance betas (count 2 (tags s)) =
+    subst (λ ms. shifts ms ≤ shiftAllowance (counted Kind.beta ms) (count 2 (tags s))) (take-length (r .steps))
+    (d .beginnings (length (r .steps)) (le-refl (length (r .steps))) .shifting) in
+    let c = d .reported in
+    omega (
+      arith,
+      within,
+      shifts-are (r .steps),
+      c .enters,
+      c .leave-funs,
+      c .leave-inerts,
+      d .is-run .in-budget,
+      mul-le-mul-left ((1 + betas) * 2) (count-few s accepts 2),
+    )
 
 -- nodes by their tags and arguments
 pairs-split : (ns : List Node) → pairs (map (λ n. n .tag) ns) (map (λ n. n .argument) ns) ≡ ns
@@ -57,7 +81,7 @@ pub record Given (a : Answer) (ns : List Node) (ts ms : List ℕ) : Type 0 where
   pub tellable : Tellable a ts ms
   pub nodes-are : nodesIn a ts ms ≡ ns
 
-meets-given : {s : List ℕ} {budget : ℕ} {st : Stores} {a : Answer} {ns : List Node} → budget < 2 ^ 64 → st .output ≤ outputLimit → Meets s budget st a ns
+meets-given : {s : List ℕ} {budget : ℕ} {st : Stores} {a : Answer} {ns : List Node} → budget < 2 ^ 32 → st .output ≤ outputLimit → Meets s budget st a ns
     → (ts ms : List ℕ) → Given a ns (overlay (map (λ n. n .tag) ns) ts) (overlay (map (λ n. n .argument) ns) ms)
 meets-given few limit (file-refused k e) ts ms = record { tellable = tt; nodes-are = refl }
 meets-given few limit (file-run r q ns e two three) ts ms =
@@ -72,7 +96,7 @@ meets-given few limit (file-run r q ns e two three) ts ms =
             within-limit = omega (arith, condition-fits (two .exactly (q .outcome) .0 refl));
             within-tags = omega (arith, count, tags-count, overlay-longer tags ts);
             within-arguments = omega (arith, count, arguments-count, overlay-longer arguments ms);
-            sum-fits = steps-fit few three;
+            sum-fits = steps-fit e few three;
           };
       nodes-are =
           ap (λ n. pairs (take n (overlay tags ts)) (take n (overlay arguments ms))) count
@@ -84,14 +108,14 @@ meets-given few limit (file-run r q ns e two three) ts ms =
     }
 
 -- of a call
-pub called-given : {s : List ℕ} {budget : ℕ} {q : enum.Answer} {m m′ : Memory} → budget < 2 ^ 64 → Called s budget q m m′
+pub called-given : {s : List ℕ} {budget : ℕ} {q : enum.Answer} {m m′ : Memory} → budget < 2 ^ 32 → Called s budget q m m′
     → Given (told q) (written s budget (storesIn m)) (m′ .output-tags) (m′ .output-arguments)
 called-given {s} {budget} {q} {m} {m′} few c =
     subst₂ (λ ts ms. Given (told q) (written s budget (storesIn m)) ts ms) (sym (c .output-tags-are)) (sym (c .output-arguments-are))
     (meets-given few (omega arith) (c .meets) (m .output-tags) (m .output-arguments))
 
 -- the text that is rendered after a call is the text of the call
-pub called-text : {s : List ℕ} {budget : ℕ} {q : enum.Answer} {m m′ : Memory} → budget < 2 ^ 64 → Called s budget q m m′
+pub called-text : {s : List ℕ} {budget : ℕ} {q : enum.Answer} {m m′ : Memory} → budget < 2 ^ 32 → Called s budget q m m′
     → lines (told q) (nodesIn (told q) (m′ .output-tags) (m′ .output-arguments)) ≡ textOf s budget (storesIn m)
 unfolding textOf
 called-text {s} {budget} {q} {m} {m′} few c =

@@ -46,7 +46,7 @@ fn counts_bytes(r: Report, shifts: u64) -> usize
         + width(r.leave_fun)
         + width(r.leave_inert);
     let allowed = width(r.subst_allowance) + width(shifts) + width(r.shift_allowance);
-    let taken = width(r.nodes as u64) + width(r.cells as u64) + width(r.names as u64);
+    let taken = width(r.nodes) + width(r.cells) + width(r.names);
     52 + steps + allowed + taken
 }
 
@@ -97,7 +97,7 @@ fn put_counts(out: &mut [u8], at: usize, r: Report, shifts: u64) -> usize
     let leave = put_count(out, enter, b"enter", r.enter);
     let shift = put_leave(out, leave, r.leave_fun, r.leave_inert);
     let store = put_allowed(out, shift, b"shift", shifts, r.shift_allowance);
-    put_store(out, store, r.nodes as u64, r.cells as u64, r.names as u64)
+    put_store(out, store, r.nodes, r.cells, r.names)
 }
 
 // Puts the term line, where there is one.
