@@ -23,7 +23,7 @@ faults=0 by_assertion=0 by_crash=0 by_time=0 wrong=0
 
 # The file that faults are put in, and the tests that look at the answers: first the machine's.
 source=$machine
-tests=(--test cases --test demand3 --test families --test random)
+tests=(--test cases --test budget --test demand3 --test families --test random)
 
 # Builds the archive with each FROM, which must occur in the source, replaced by its TO. Says why not, if not.
 build() {
@@ -107,7 +107,6 @@ fn item_nodes(s: &Lent, code: usize, stack: u16) -> Option<Vec<(u8, u16)>> {
                                 continue;
                             }
                             if let Some(copy) = item_nodes(s, from, s.owns[e as usize - 1]) {
-                                if steps == budget as u64 { break 'run 100; }
                                 if nodes + copy.len() > cap { break 'run 9; }
                                 for (k, &(tag, x)) in copy.iter().enumerate() { s.tags[nodes + k] = tag; s.args[nodes + k] = x; }
                                 code = nodes;
@@ -118,8 +117,8 @@ fn item_nodes(s: &Lent, code: usize, stack: u16) -> Option<Vec<(u8, u16)>> {
 "
 try "trap 2: a copy keeps its old binder names" "x = x - z + names" "x = x + 0 * names" "${ends[@]}"
 try "trap 3: a stop where subst is due with dump and stack empty" "if s.tags[from] == 1 {" "if s.tags[from] == 1 && (dump != 0 || stack != 0) {"
-try "trap 4: the budget before asking whether a step fits" "            match s.tags[code] {
-                2 =>" "            if steps == budget as u64 { break 'run 100; }
+try "trap 4: the budget before asking whether a step fits, so that the last allowed beta ends the run" "            match s.tags[code] {
+                2 =>" "            if beta == budget as u64 { break 'run 100; }
             match s.tags[code] {
                 2 =>"
 try "trap 5: the output written as it is unfolded, then found too long" \
@@ -132,6 +131,31 @@ try "trap 5: the output written as it is unfolded, then found too long" \
     "2 => { s.out_tags[n]" "2 => { if n == room { return None; } s.out_tags[n]" \
     "1 => { s.out_tags[n]" "1 => { if n == room { return None; } s.out_tags[n]" \
     "_ => { s.out_tags[n]" "_ => { if n == room { return None; } s.out_tags[n]"
+
+# the budget, for which a beta alone asks; the other places are where the other steps ask for what they need, or are made
+asked="if beta == budget as u64 { break 'run 100; }"
+cell="if cells >= cells_cap { break 'run 8; }"
+nodes="if nodes + size > cap { break 'run 9; }"
+leave="let c = dump as usize - 1;"
+every="if beta + subst + enter + fun + inert == budget as u64 { break 'run 100; }"
+try "budget: every step counted, and asked for at every step" "$asked" "$every" "$cell" "$every $cell" "let end = end_of(s.tags, from);" "$every let end = end_of(s.tags, from);" "$leave" "$every $leave"
+try "budget: every step counted, and asked for at a beta" "$asked" "${every/==/>=}"
+try "budget: substs counted too" "$asked" "if beta + subst >= budget as u64 { break 'run 100; }"
+try "budget: asked for at an enter too" "$cell" "$asked $cell"
+try "budget: asked for at a subst too, before the stores" "let end = end_of(s.tags, from);" "$asked let end = end_of(s.tags, from);"
+try "budget: asked for at a subst that a store refuses" "$nodes" "if nodes + size > cap { break 'run if beta == budget as u64 { 100 } else { 9 }; }"
+try "budget: asked for at a leave too" "$leave" "$asked $leave"
+try "budget: asked for where no step fits and 11 would come" "if s.renumber.len() < names { break 'run 11; }" "if s.renumber.len() < names { break 'run if beta == budget as u64 { 100 } else { 11 }; }"
+try "budget: asked for before loading" "if n > cap { nodes = 0; names = 0; break 'run 9; }" "if budget == 0 { break 'run 100; } if n > cap { nodes = 0; names = 0; break 'run 9; }"
+try "budget: never asked for" "$asked" ""
+try "budget: one beta more" "$asked" "if beta > budget as u64 { break 'run 100; }"
+try "budget: one beta fewer" "$asked" "if beta + 1 >= budget as u64 { break 'run 100; }"
+try "budget: 0 taken for no limit" "$asked" "if budget != 0 && beta == budget as u64 { break 'run 100; }"
+try "budget: the beta that is not made counted" "$asked" "if beta == budget as u64 { beta += 1; break 'run 100; }"
+try "budget: read with 16 bits" "$asked" "if beta == budget as u16 as u64 { break 'run 100; }"
+try "budget: read with 24 bits" "$asked" "if beta == (budget & 0xFF_FFFF) as u64 { break 'run 100; }"
+try "budget: read with a sign" "$asked" "if beta as i64 >= budget as i32 as i64 { break 'run 100; }"
+try "budget: betas counted with 8 bits" "$asked" "if beta as u8 as u64 == budget as u64 { break 'run 100; }"
 
 try "10 before 9 at loading" "if n > cap { nodes = 0; names = 0; break 'run 9; }" "if names0 > names_cap { nodes = 0; names = 0; break 'run 10; } if n > cap { nodes = 0; names = 0; break 'run 9; }"
 try "10 before 9 at subst" "if nodes + size > cap { break 'run 9; }" "if names + binders > names_cap { break 'run 10; } if nodes + size > cap { break 'run 9; }"

@@ -30,7 +30,7 @@ pub fn table() {
 
 /// The library ends at the normal form, and refuses to write it where it is longer than the output.
 fn library_columns(n: usize, file: &[u8]) -> String {
-    let glow::Answer::Ran { outcome, report } = glow::Stores::largest().evaluate(file, crate::WHOLE) else { panic!("t_{n} is refused") };
+    let glow::Answer::Ran { outcome, report } = glow::Stores::largest().evaluate(file, crate::AMPLE) else { panic!("t_{n} is refused") };
     assert_eq!(report.beta, n as u64);
     let end = match outcome {
         glow::Outcome::Normal { .. } => "normal",

@@ -4,7 +4,7 @@
 //! make calls of four kinds on one file: once with one call of each kind, and then, for each kind,
 //! with `MORE` calls more of it. The difference is those calls alone: start-up, and the first call
 //! on new stores, are in both counts.
-use crate::{families, library_call, plain_call, Arrays, Case, Family, WHOLE};
+use crate::{families, library_call, plain_call, Arrays, Case, Family, ALL, RUN};
 use std::io::{Read, Write};
 use std::process::{Command, Stdio};
 
@@ -13,7 +13,7 @@ const MORE: u64 = 5;
 /// settings glibc clears and copies long stretches by vector instructions, which both count alike.
 const NO_STRING_INSTRUCTIONS: &str = "glibc.cpu.x86_rep_stosb_threshold=1000000000:glibc.cpu.x86_rep_movsb_threshold=1000000000";
 
-/// Calls of each kind: the library's whole and short ones, the plain machine's whole and short ones.
+/// Calls of each kind: the library's with the result and without, the plain machine's with it and without.
 type Calls = [u64; 4];
 
 /// Says why not, if not.
@@ -26,7 +26,7 @@ pub fn can_be_counted() -> bool {
 
 pub fn table() {
     if !can_be_counted() { return; }
-    println!("largest stores, made once, NOT cleared between calls; instructions executed, by callgrind, of a call with load and check of the file; all: with the result written, run: one step less and no result");
+    println!("largest stores, made once, NOT cleared between calls; instructions executed, by callgrind, of a call with load and check of the file; all: with the result written, run: all steps and no result");
     println!("{:42} {:>6} {:10} | {:^39} | {:^35} | {:^11}", "", "", "", "per call", "per step", "lib / plain");
     println!("{:42} {:>6} {:10} | {:>9} {:>9} {:>9} {:>9} | {:>8} {:>8} {:>8} {:>8} | {:>5} {:>5}", "", "steps", "end",
         "lib all", "lib run", "pl. all", "pl. run", "lib all", "lib run", "pl. all", "pl. run", "all", "run");
@@ -51,15 +51,15 @@ fn row(case: &Case) {
         calls[kind] += MORE;
         (count_calls(case, calls) - once) as f64 / MORE as f64
     });
-    let [lw, ls, pw, ps] = per_call;
-    let [lw_step, ls_step, pw_step, ps_step] = per_call.map(|i| if case.steps == 0 { "-".to_string() } else { format!("{:.1}", i / case.steps as f64) });
-    println!("{:42} {:6} {:10} | {lw:9.0} {ls:9.0} {pw:9.0} {ps:9.0} | {lw_step:>8} {ls_step:>8} {pw_step:>8} {ps_step:>8} | {:5.2} {:5.2}",
-        case.name, case.steps, case.end, lw / pw, ls / ps);
+    let [la, lr, pa, pr] = per_call;
+    let [la_step, lr_step, pa_step, pr_step] = per_call.map(|i| if case.steps == 0 { "-".to_string() } else { format!("{:.1}", i / case.steps as f64) });
+    println!("{:42} {:6} {:10} | {la:9.0} {lr:9.0} {pa:9.0} {pr:9.0} | {la_step:>8} {lr_step:>8} {pa_step:>8} {pr_step:>8} | {:5.2} {:5.2}",
+        case.name, case.steps, case.end, la / pa, lr / pr);
 }
 
 /// The instructions of a child that makes these calls on the case's file.
 fn count_calls(case: &Case, calls: Calls) -> u64 {
-    let mut words = vec!["--calls".to_string(), case.short().to_string()];
+    let mut words = vec!["--calls".to_string()];
     words.extend(calls.map(|n| n.to_string()));
     count(&words, &case.file)
 }
@@ -74,15 +74,15 @@ pub fn count(words: &[String], input: &[u8]) -> u64 {
     said.lines().find_map(|line| line.split_once("Collected : ")?.1.trim().parse().ok()).unwrap_or_else(|| panic!("callgrind gave no count:\n{said}"))
 }
 
-/// The child: `--calls SHORT`, a number of calls for each kind, and the file at standard input.
+/// The child: `--calls`, a number of calls for each kind, and the file at standard input.
 pub fn make_calls(words: &[&str]) {
     let numbers: Vec<u64> = words.iter().map(|word| word.parse().expect("a number")).collect();
-    let [short, lib_all, lib_run, plain_all, plain_run] = numbers[..] else { panic!("--calls takes five numbers") };
+    let [lib_all, lib_run, plain_all, plain_run] = numbers[..] else { panic!("--calls takes four numbers") };
     let mut file = Vec::new();
     std::io::stdin().read_to_end(&mut file).expect("the file");
     let s = &mut Arrays::largest();
-    for _ in 0..lib_all { library_call(s, &file, WHOLE); }
-    for _ in 0..lib_run { library_call(s, &file, short as u32); }
-    for _ in 0..plain_all { plain_call(s, &file, WHOLE); }
-    for _ in 0..plain_run { plain_call(s, &file, short as u32); }
+    for _ in 0..lib_all { library_call(s, &file, ALL); }
+    for _ in 0..lib_run { library_call(s, &file, RUN); }
+    for _ in 0..plain_all { plain_call(s, &file, ALL); }
+    for _ in 0..plain_run { plain_call(s, &file, RUN); }
 }

@@ -3,10 +3,11 @@
 //!
 //! Stores are the largest (32,768 nodes, cells and names; renumber 32,768; output 16,384), made once
 //! and NOT cleared between calls, the same for both. A call is load, run and, at normal, writing the
-//! result. "all" is such a call; "run" is the same call with one step less of budget, so that it
-//! ends spent and writes no result. A time is the best of fifteen short rounds, and the two sides take
-//! their rounds by turns, so that a machine that slows down for a while slows both. The library is called as it is, on
-//! the stack that is there; what the wrapper's care for the stack costs is measured apart, after the table.
+//! result. "all" is such a call; "run" is the same call with a renumber store of length 0, so that it
+//! makes all steps, and is then refused by 11 before a result is counted or written. A time is the best of
+//! fifteen short rounds, and the two sides take their rounds by turns, so that a machine that slows down for a
+//! while slows both. The library is called as it is, on the stack that is there; what the wrapper's care for the
+//! stack costs is measured apart, after the table.
 //!
 //!     cargo run --release -p glow-bench            (--no-default-features: the plain machine alone)
 //!     cargo run --release -p glow-bench -- --instructions
@@ -28,7 +29,10 @@ const ROUNDS: usize = 15;
 /// The length of a round in seconds.
 const ROUND: f64 = 0.01;
 /// A budget that no case uses up.
-const WHOLE: u32 = 1_000_000;
+const AMPLE: u32 = 1_000_000;
+/// The length of the renumber store in a call that writes its result, and in one that does not.
+const ALL: usize = 32_768;
+const RUN: usize = 0;
 
 struct Arrays { tags: Vec<u8>, args: Vec<u16>, codes: Vec<u16>, owns: Vec<u16>, nexts: Vec<u16>, places: Vec<u16>, renumber: Vec<u16>, out_tags: Vec<u8>, out_args: Vec<u16> }
 
@@ -38,31 +42,31 @@ impl Arrays {
     }
 }
 
-fn plain_call(s: &mut Arrays, file: &[u8], budget: u32) -> [u64; 12] {
+fn plain_call(s: &mut Arrays, file: &[u8], renumber: usize) -> [u64; 12] {
     let mut report = [0; 12];
-    let mut lent = plain::Lent { tags: &mut s.tags, args: &mut s.args, codes: &mut s.codes, owns: &mut s.owns, nexts: &mut s.nexts, places: &mut s.places, renumber: &mut s.renumber, out_tags: &mut s.out_tags, out_args: &mut s.out_args };
-    plain::evaluate(file, budget, &mut lent, &mut report);
+    let mut lent = plain::Lent { tags: &mut s.tags, args: &mut s.args, codes: &mut s.codes, owns: &mut s.owns, nexts: &mut s.nexts, places: &mut s.places, renumber: &mut s.renumber[..renumber], out_tags: &mut s.out_tags, out_args: &mut s.out_args };
+    plain::evaluate(file, AMPLE, &mut lent, &mut report);
     report
 }
 
 #[cfg(feature = "library")]
-fn library_call(s: &mut Arrays, file: &[u8], budget: u32) -> [u64; 12] {
+fn library_call(s: &mut Arrays, file: &[u8], renumber: usize) -> [u64; 12] {
     let mut report = [0; 12];
-    glow::evaluate_in_on_this_stack(file, budget, &mut s.tags, &mut s.args, &mut s.codes, &mut s.owns, &mut s.nexts, &mut s.places, &mut s.renumber, &mut s.out_tags, &mut s.out_args, &mut report);
+    glow::evaluate_in_on_this_stack(file, AMPLE, &mut s.tags, &mut s.args, &mut s.codes, &mut s.owns, &mut s.nexts, &mut s.places, &mut s.renumber[..renumber], &mut s.out_tags, &mut s.out_args, &mut report);
     report
 }
 #[cfg(not(feature = "library"))]
-fn library_call(_: &mut Arrays, _: &[u8], _: u32) -> [u64; 12] { [0; 12] }
+fn library_call(_: &mut Arrays, _: &[u8], _: usize) -> [u64; 12] { [0; 12] }
 
 /// As `library_call`, by the call of the wrapper that may be made on any thread.
 #[cfg(feature = "library")]
-fn careful_call(s: &mut Arrays, file: &[u8], budget: u32) -> [u64; 12] {
+fn careful_call(s: &mut Arrays, file: &[u8], renumber: usize) -> [u64; 12] {
     let mut report = [0; 12];
-    glow::evaluate_in(file, budget, &mut s.tags, &mut s.args, &mut s.codes, &mut s.owns, &mut s.nexts, &mut s.places, &mut s.renumber, &mut s.out_tags, &mut s.out_args, &mut report);
+    glow::evaluate_in(file, AMPLE, &mut s.tags, &mut s.args, &mut s.codes, &mut s.owns, &mut s.nexts, &mut s.places, &mut s.renumber[..renumber], &mut s.out_tags, &mut s.out_args, &mut report);
     report
 }
 #[cfg(not(feature = "library"))]
-fn careful_call(_: &mut Arrays, _: &[u8], _: u32) -> [u64; 12] { [0; 12] }
+fn careful_call(_: &mut Arrays, _: &[u8], _: usize) -> [u64; 12] { [0; 12] }
 
 /// Terms with `free` free names, one for each size; a term that stands alone has one size, which says nothing.
 struct Family { name: &'static str, free: usize, sizes: &'static [usize], make: fn(usize) -> Flat }
@@ -88,57 +92,55 @@ fn families() -> Vec<Family> {
     ]
 }
 
-/// A file to measure, with what a whole call on it gives.
+/// A file to measure, with what a call that writes its result gives on it.
 struct Case { name: String, file: Vec<u8>, nodes: usize, steps: u64, taken: u64, end: String }
 
 impl Case {
-    /// Runs the file once on both sides, which must report the same.
+    /// Makes each call on the file once on both sides, which must report the same; without a result the same steps are made.
     fn new(s: &mut Arrays, family: &Family, n: usize) -> Case {
         let term = (family.make)(n);
         let name = if family.sizes.len() > 1 { format!("{}, n = {n}", family.name) } else { family.name.to_string() };
         let file = canonical(family.free, &term).file();
-        let report = plain_call(s, &file, WHOLE);
-        if cfg!(feature = "library") { assert_eq!(library_call(s, &file, WHOLE), report, "{name}"); }
+        let report = plain_call(s, &file, ALL);
+        let run = plain_call(s, &file, RUN);
+        assert!(run[2..] == report[2..] && (8..=11).contains(&run[0]), "{name}: {run:?}");
+        if cfg!(feature = "library") { assert_eq!([ALL, RUN].map(|renumber| library_call(s, &file, renumber)), [report, run], "{name}"); }
         let end = match report[0] { 0 => "normal".to_string(), n => format!("refused {n}") };
         Case { name, file, nodes: term.len(), steps: report[2..7].iter().sum(), taken: report[7], end }
     }
-
-    /// The budget of a call that ends before the result is written.
-    fn short(&self) -> u32 { self.steps.saturating_sub(1) as u32 }
 }
 
-/// A side, and the budget of its calls.
-type Side = (fn(&mut Arrays, &[u8], u32) -> [u64; 12], u32);
+/// A side, and the length of the renumber store in its calls.
+type Side = (fn(&mut Arrays, &[u8], usize) -> [u64; 12], usize);
 
 /// Seconds per call of each side, the best of its rounds.
 fn times<const N: usize>(s: &mut Arrays, file: &[u8], sides: [Side; N]) -> [f64; N] {
     let mut best = [f64::MAX; N];
     for _ in 0..ROUNDS {
-        for (best, (call, budget)) in best.iter_mut().zip(sides) {
-            call(s, file, budget);
+        for (best, (call, renumber)) in best.iter_mut().zip(sides) {
+            call(s, file, renumber);
             let start = Instant::now();
             let mut calls = 0u64;
-            while start.elapsed().as_secs_f64() < ROUND { for _ in 0..4 { call(s, file, budget); } calls += 4; }
+            while start.elapsed().as_secs_f64() < ROUND { for _ in 0..4 { call(s, file, renumber); } calls += 4; }
             *best = best.min(start.elapsed().as_secs_f64() / calls as f64);
         }
     }
     best
 }
 
-/// Prints the case's row, and returns the seconds of a whole call.
+/// Prints the case's row, and returns the seconds of a call that writes its result.
 fn time_row(s: &mut Arrays, case: &Case) -> f64 {
     let Case { name, file, nodes, steps, taken, end } = case;
-    let short = case.short();
     let speed = |seconds: f64| *steps as f64 / seconds / 1e6;
     if cfg!(feature = "library") {
-        let [lw, ls, pw, ps] = times(s, file, [(library_call, WHOLE), (library_call, short), (plain_call, WHOLE), (plain_call, short)]);
+        let [la, lr, pa, pr] = times(s, file, [(library_call, ALL), (library_call, RUN), (plain_call, ALL), (plain_call, RUN)]);
         println!("{name:42} {nodes:6} {steps:6} {taken:6} {end:10} | {:8.1} {:8.1} | {:8.1} {:8.1} | {:7.1} {:7.1} | {:5.2} {:5.2}",
-            lw * 1e6, ls * 1e6, pw * 1e6, ps * 1e6, speed(ls), speed(ps), lw / pw, ls / ps);
-        lw
+            la * 1e6, lr * 1e6, pa * 1e6, pr * 1e6, speed(lr), speed(pr), la / pa, lr / pr);
+        la
     } else {
-        let [pw, ps] = times(s, file, [(plain_call, WHOLE), (plain_call, short)]);
-        println!("{name:42} {nodes:6} {steps:6} {taken:6} {end:10} | {:8.1} {:8.1} | {:7.1}", pw * 1e6, ps * 1e6, speed(ps));
-        pw
+        let [pa, pr] = times(s, file, [(plain_call, ALL), (plain_call, RUN)]);
+        println!("{name:42} {nodes:6} {steps:6} {taken:6} {end:10} | {:8.1} {:8.1} | {:7.1}", pa * 1e6, pr * 1e6, speed(pr));
+        pa
     }
 }
 
@@ -167,7 +169,7 @@ fn care_rows() {
     let file = canonical(1, &renamings(1)).file();
     for (what, bytes) in [("64 MiB", 64 << 20), ("2 MiB", 2 << 20)] {
         let work = || {
-            let [bare, careful] = times(&mut Arrays::largest(), &file, [(library_call, WHOLE), (careful_call, WHOLE)]);
+            let [bare, careful] = times(&mut Arrays::largest(), &file, [(library_call, ALL), (careful_call, ALL)]);
             println!("a file of 4 nodes, on a stack of {what}: {:.3} microseconds as it is, {:.3} by the call for any thread", bare * 1e6, careful * 1e6);
         };
         std::thread::scope(|scope| std::thread::Builder::new().stack_size(bytes).spawn_scoped(scope, work).unwrap().join().unwrap());

@@ -2,7 +2,7 @@
 use crate::binary::{packed, unpacked};
 use crate::families::*;
 use crate::flat::*;
-use crate::machine::{Answer, Lengths, Outcome};
+use crate::machine::{Answer, Lengths, Outcome, GLOW_BUDGET};
 use crate::prng::Prng;
 
 const BOUND: u32 = 1 << 20;
@@ -173,18 +173,21 @@ pub fn lengths(r: &mut Prng, full: &Answer) -> Lengths {
     all
 }
 
+/// A budget around the betas that `full`, the answer with the largest stores and the budget `most`, has: none, one less, as many, one
+/// more, and much more, which the stores have to end where the term does not.
 pub fn budget(r: &mut Prng, full: &Answer, most: u32) -> u32 {
     let Answer::Ran(run) = full else { return r.next() as u32 };
-    let total = run.counts.steps() as u32;
-    let ended = !matches!(run.outcome, Outcome::Spent);
-    match r.below(12) {
+    let betas = run.counts.beta as u32;
+    match r.below(14) {
         0 => 0,
-        1 => total.saturating_sub(1),
-        2 => total,
-        3 if ended => total + 1,
-        4 => r.below(total as usize + 1) as u32,
-        5 | 6 if ended => u32::MAX,
-        7 if ended => 1_000_000,
+        1 | 2 => betas.saturating_sub(1),
+        3 | 4 => betas,
+        5 => betas + 1,
+        6 => r.below(betas as usize + 1) as u32,
+        7 => betas + r.below(70_000) as u32,
+        8 => u32::MAX,
+        9 => GLOW_BUDGET,
+        10 => 1 << r.between(16, 31),
         _ => most,
     }
 }

@@ -1,4 +1,4 @@
-//! Every worked case of 01, the table's examples, and the traps' cases.
+//! Every worked case of 01 and 02, the table's examples, the order of the tests, and the traps' cases.
 use glow_tests::file::REFUSED_FILES;
 use glow_tests::case::{print_notes, Case};
 use glow_tests::file::check;
@@ -40,14 +40,14 @@ fn a_to_j() {
     let f = glow(1, FF);
     assert_eq!(printed(&f), "normal\nbeta 2\nsubst 2 of 12\nenter 3\nleave 2 1\nshift 6 of 18\nstore 13 3 5\nterm a1 v0 l1 v1\n");
     assert_eq!(from_text(1, FF).file().len(), 31);
-    let g = with(1, C, 3, Lengths::glow());
-    assert_eq!(g.run().outcome, normal(1, "v0"));
-    let h = with(1, C, 2, Lengths::glow());
-    assert_eq!((&h.run().outcome, h.run().counts), (&Outcome::Spent, counts(0, 0, 1, 0, 1)));
+    let g = with(1, C, 1, Lengths::glow());
+    assert_eq!((&g.run().outcome, g.run().counts, g.run().figures), (&normal(1, "v0"), counts(1, 0, 1, 0, 1), figures(4, 1, 2)));
+    let h = with(1, C, 0, Lengths::glow());
+    assert_eq!((&h.run().outcome, h.run().counts, h.run().figures), (&Outcome::Spent, counts(0, 0, 1, 0, 1), figures(4, 1, 2)));
     let i = with(0, D, GLOW_BUDGET, Lengths { tags: 6, args: 6, ..Lengths::glow() });
     assert_eq!((&i.run().outcome, i.run().counts.beta, i.run().counts.subst), (&Outcome::Refused(9), 1, 0));
-    let j = with(0, J, 10, Lengths::glow());
-    assert_eq!((&j.run().outcome, j.run().counts, j.run().figures), (&Outcome::Spent, counts(2, 3, 3, 2, 0), figures(21, 3, 5)));
+    let j = with(0, J, 2, Lengths::glow());
+    assert_eq!((&j.run().outcome, j.run().counts, j.run().figures), (&Outcome::Spent, counts(2, 4, 3, 3, 0), figures(25, 3, 6)));
     print_notes();
 }
 
@@ -76,16 +76,67 @@ fn table_examples() {
         let ten = with(1, FF, budget, Lengths { places: 2, ..Lengths::glow() });
         assert_eq!((&ten.run().outcome, ten.run().figures, ten.run().subst_allowance), (&Outcome::Refused(10), figures(0, 0, 0), 4));
     }
-    // every store just so, and one less, at case f
+    // the budget and every store just so, and one less, at case f
     let just = Lengths::of(13, 3, 5, 5, 4);
-    assert!(matches!(with(1, FF, 10, just).run().outcome, Outcome::Normal(_)));
-    assert_eq!(with(1, FF, 9, just).run().outcome, Outcome::Spent);
-    refused(with(1, FF, 10, Lengths { nexts: 2, ..just }), 8);
-    refused(with(1, FF, 10, Lengths { args: 12, ..just }), 9);
-    refused(with(1, FF, 10, Lengths { places: 4, ..just }), 10);
-    refused(with(1, FF, 10, Lengths { renumber: 4, ..just }), 11);
-    refused(with(1, FF, 10, Lengths { out_tags: 3, ..just }), 12);
+    assert!(matches!(with(1, FF, 2, just).run().outcome, Outcome::Normal(_)));
+    assert_eq!(with(1, FF, 1, just).run().outcome, Outcome::Spent);
+    refused(with(1, FF, 2, Lengths { nexts: 2, ..just }), 8);
+    refused(with(1, FF, 2, Lengths { args: 12, ..just }), 9);
+    refused(with(1, FF, 2, Lengths { places: 4, ..just }), 10);
+    refused(with(1, FF, 2, Lengths { renumber: 4, ..just }), 11);
+    refused(with(1, FF, 2, Lengths { out_tags: 3, ..just }), 12);
     print_notes();
+}
+
+/// The budget counts beta steps alone, and is asked only where a beta is next. `at` gives the outcome and the counts of a run.
+#[test]
+fn where_the_budget_is_asked() {
+    let at = |f: usize, text: &str, budget: u32, lengths: Lengths| { let a = with(f, text, budget, lengths); (a.run().outcome.clone(), a.run().counts) };
+    let glow = Lengths::glow();
+    let refused = Outcome::Refused;
+    // shifts and substs are made with no budget left: all of a fireball's shifts, those before the first beta, and those behind the last
+    assert_eq!(at(1, "v0", 0, glow), (normal(1, "v0"), counts(0, 0, 0, 0, 0)));
+    assert_eq!(at(0, "l0 v0", 0, glow), (normal(0, "l0 v0"), counts(0, 0, 0, 0, 0)));
+    assert_eq!(at(1, "a1 v0 v0", 0, glow), (normal(1, "a1 v0 v0"), counts(0, 0, 1, 0, 1)));
+    assert_eq!(at(1, "a4 a1 v0 l1 v1 a1 v0 v0", 0, glow), (normal(1, "a4 a1 v0 l1 v1 a1 v0 v0"), counts(0, 0, 3, 1, 2)));
+    assert_eq!(at(0, D, 0, glow), (Outcome::Spent, counts(0, 0, 1, 1, 0)));
+    assert_eq!(at(1, FF, 0, glow), (Outcome::Spent, counts(0, 0, 1, 1, 0)));
+    // f's second beta comes behind two enters, two leaves and two substs
+    assert_eq!(at(1, FF, 1, glow), (Outcome::Spent, counts(1, 2, 3, 2, 1)));
+    assert_eq!(at(0, D, 1, glow), (normal(0, "l0 v0"), counts(1, 1, 1, 1, 0)));
+    assert_eq!(at(0, J, 0, glow), (Outcome::Spent, counts(0, 0, 1, 1, 0)));
+    assert_eq!(at(0, J, 1, glow), (Outcome::Spent, counts(1, 2, 2, 2, 0)));
+    // a store that is full before the next beta, with the budget used up: the store's refusal
+    assert_eq!(at(1, C, 0, Lengths { codes: 0, ..glow }), (refused(8), counts(0, 0, 0, 0, 0)));
+    assert_eq!(at(0, D, 1, Lengths { tags: 6, ..glow }), (refused(9), counts(1, 0, 1, 1, 0)));
+    assert_eq!(at(0, D, 1, Lengths { places: 2, ..glow }), (refused(10), counts(1, 0, 1, 1, 0)));
+    assert_eq!(at(1, FF, 1, Lengths { nexts: 1, ..glow }), (refused(8), counts(1, 0, 1, 1, 0)));
+    assert_eq!(at(0, J, 2, Lengths { args: 24, ..glow }), (refused(9), counts(2, 3, 3, 3, 0)));
+    assert_eq!(at(0, J, 2, Lengths { places: 5, ..glow }), (refused(10), counts(2, 3, 3, 3, 0)));
+    assert_eq!(at(0, J, 2, Lengths { owns: 2, ..glow }), (refused(8), counts(2, 2, 2, 2, 0)));
+    // the same stores where a beta that the budget forbids comes first
+    assert_eq!(at(0, D, 0, Lengths { tags: 6, places: 2, ..glow }), (Outcome::Spent, counts(0, 0, 1, 1, 0)));
+    assert_eq!(at(1, FF, 0, Lengths { nexts: 1, ..glow }), (Outcome::Spent, counts(0, 0, 1, 1, 0)));
+    assert_eq!(at(0, J, 1, Lengths { args: 24, places: 5, owns: 2, ..glow }), (Outcome::Spent, counts(1, 2, 2, 2, 0)));
+    // where no step fits, 11 and 12 whatever is left of the budget
+    for budget in [1, 2] {
+        assert_eq!(at(1, C, budget, Lengths { renumber: 1, ..glow }), (refused(11), counts(1, 0, 1, 0, 1)));
+        assert_eq!(at(1, C, budget, Lengths { out_args: 0, ..glow }), (refused(12), counts(1, 0, 1, 0, 1)));
+    }
+    assert_eq!(at(1, C, 0, Lengths { renumber: 0, out_args: 0, ..glow }), (Outcome::Spent, counts(0, 0, 1, 0, 1)));
+    assert_eq!(at(1, "v0", 0, Lengths { renumber: 0, ..glow }).0, refused(11));
+    assert_eq!(at(1, "v0", 0, Lengths { out_tags: 0, ..glow }).0, refused(12));
+}
+
+/// Budgets that would be used up if only some of their bits were read, or if they had a sign.
+#[test]
+fn budgets_of_thirty_two_bits() {
+    for bits in 8..32u32 {
+        for budget in [1 << bits, (1 << bits) + 1, (1u32 << bits).wrapping_neg()] {
+            assert!(matches!(with(1, FF, budget, Lengths::glow()).run().outcome, Outcome::Normal(_)));
+        }
+    }
+    assert!(matches!(with(1, FF, u32::MAX, Lengths::glow()).run().outcome, Outcome::Normal(_)));
 }
 
 /// Files that several refusals fit: the first counts.
@@ -155,7 +206,7 @@ fn null_and_length_0() {
                 for lengths in [Lengths::glow(), Lengths::of(13, 3, 5, 5, 4)] {
                     let mut lengths = lengths;
                     empty(&mut lengths);
-                    for budget in [0, 1, 2, 3, 4, 10, 1000] {
+                    for budget in [0, 1, 2, 3, 1000] {
                         for garbage in [0, 1, 99] { seen[Case::new(file, budget, lengths).garbage(garbage).nulls().check().kind()] += 1; }
                         for report_len in [0, 11] { Case { report_len, ..Case::new(file, budget, lengths) }.nulls().check(); }
                     }
@@ -177,9 +228,9 @@ fn stores_as_the_last_call_left_them() {
     let mut stores = glow::Stores::new(200, 100, 100, 100, 100);
     for first in texts {
         for (f, text) in texts {
-            stores.evaluate_on_this_stack(&from_text(first.0, first.1).file(), 50);
+            stores.evaluate_on_this_stack(&from_text(first.0, first.1).file(), 10);
             let file = from_text(f, text).file();
-            assert_eq!(glow_tests::case::told(f, stores.evaluate_on_this_stack(&file, 50)), evaluate(&file, 50, &lengths), "{text} after {}", first.1);
+            assert_eq!(glow_tests::case::told(f, stores.evaluate_on_this_stack(&file, 10)), evaluate(&file, 10, &lengths), "{text} after {}", first.1);
         }
     }
 }

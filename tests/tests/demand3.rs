@@ -1,6 +1,7 @@
-//! Demand 3 watched from outside: for small terms every budget from 0 to the end. Counts and
-//! figures against the second machine's; its state, decoded, against the calculus's term after as
-//! many steps as there were betas; both bounds at each.
+//! Demand 3 watched from outside: for small terms every budget from 0 to the betas needed and one
+//! more, and stores that end the run before each enter and each subst. Counts and figures against the
+//! second machine's; its state, decoded, against the calculus's term after as many steps as there were
+//! betas; both bounds at each.
 use glow_tests::calculus;
 use glow_tests::case::{print_notes, Case};
 use glow_tests::enumerate::All;
@@ -12,6 +13,33 @@ use glow_tests::painted::with_large_stack;
 use glow_tests::prng::Prng;
 use glow_tests::random;
 
+/// The beginning of a run, told as a run that ends there, and the step that fits then.
+struct Prefix { run: Run, next: Option<Step>, wanted: (u64, u64) }
+
+impl Prefix {
+    fn of(m: &Machine) -> Prefix {
+        let (subst_allowance, shift_allowance) = m.allowances();
+        let run = Run { outcome: Outcome::Spent, counts: m.counts, figures: m.figures, subst_allowance, shift_allowance };
+        let next = m.fits();
+        Prefix { run, next, wanted: if next == Some(Step::Subst) { m.wanted() } else { (0, 0) } }
+    }
+
+    /// The stores that end a run before its next step where the betas made are the budget, each with the outcome. A leave needs no store.
+    fn ends(&self, ample: Lengths) -> Vec<(Lengths, Outcome)> {
+        let (cells, nodes, names) = (self.run.figures.cells, self.run.figures.nodes + self.wanted.0, self.run.figures.names + self.wanted.1);
+        let [cells, nodes, names] = [cells, nodes, names].map(|n| n as usize);
+        match self.next {
+            Some(Step::Beta) => vec![(ample, Outcome::Spent)],
+            Some(Step::Enter) => vec![(Lengths { codes: cells, ..ample }, Outcome::Refused(8))],
+            Some(Step::Subst) => vec![
+                (Lengths { args: nodes - 1, ..ample }, Outcome::Refused(9)),
+                (Lengths { tags: nodes, args: nodes, places: names - 1, ..ample }, Outcome::Refused(10)),
+            ],
+            _ => vec![],
+        }
+    }
+}
+
 /// Gives how many states were compared.
 fn watch(f: usize, t: &Flat, budget: u32, most_nodes: u64, with_steps: bool) -> u64 {
     let file = canonical(f, t).file();
@@ -20,7 +48,7 @@ fn watch(f: usize, t: &Flat, budget: u32, most_nodes: u64, with_steps: bool) -> 
     let mut term = calculus::from_file(&parsed);
     let mut shown = calculus::to_canonical(f, &term);
     let (mut beta, mut too_large, mut states) = (0u64, false, 0u64);
-    let mut prefixes: Vec<(Counts, Figures, u64, u64)> = Vec::new();
+    let mut prefixes: Vec<Prefix> = Vec::new();
     let answer = evaluate_watched(&file, budget, &lengths, |m| {
         let (subst_allowance, shift_allowance) = m.allowances();
         assert!(m.counts.subst <= subst_allowance, "the bound of subst");
@@ -29,7 +57,7 @@ fn watch(f: usize, t: &Flat, budget: u32, most_nodes: u64, with_steps: bool) -> 
         assert_eq!(m.figures.cells, m.counts.enter);
         assert_eq!(m.held() + m.counts.enter + m.counts.beta + m.counts.subst, m.figures.nodes, "each node taken is held once or was used up once");
         assert!(!m.odd_entry(), "refusal 13, of which no example is known");
-        prefixes.push((m.counts, m.figures, subst_allowance, shift_allowance));
+        prefixes.push(Prefix::of(m));
         if too_large { return; }
         while beta < m.counts.beta {
             if with_steps { assert_eq!(calculus::all_steps(&term).len(), 1); }
@@ -42,13 +70,17 @@ fn watch(f: usize, t: &Flat, budget: u32, most_nodes: u64, with_steps: bool) -> 
         if m.fits().is_none() { assert!(calculus::all_steps(&term).is_empty() && calculus::is_fireball(&term)); }
         states += 1;
     });
-    // the library at every budget: what it must say is known from the prefixes
-    let last = prefixes.len() - 1;
-    for (k, &(counts, figures, subst_allowance, shift_allowance)) in prefixes.iter().enumerate() {
-        let want = if k == last { answer.clone() } else { Answer::Ran(Run { outcome: Outcome::Spent, counts, figures, subst_allowance, shift_allowance }) };
-        Case::new(&file, k as u32, lengths).garbage(k as u64).check_against(&want);
+    // the library: what it must say is known from the prefixes. With a budget of b it is the one before beta b + 1, or else the whole run
+    for (k, prefix) in prefixes.iter().enumerate() {
+        for (lengths, outcome) in prefix.ends(lengths) {
+            let want = Answer::Ran(Run { outcome, ..prefix.run.clone() });
+            Case::new(&file, prefix.run.counts.beta as u32, lengths).garbage(k as u64).check_against(&want);
+        }
     }
-    if budget as usize > last { Case::new(&file, last as u32 + 1, lengths).check_against(&answer); }
+    if answer.run().outcome != Outcome::Spent {
+        let betas = answer.run().counts.beta as u32;
+        for budget in [betas, betas + 1] { Case::new(&file, budget, lengths).check_against(&answer); }
+    }
     // the sizes are within limits of both
     assert!(parsed.tags.len() <= MOST);
     states
@@ -61,10 +93,10 @@ fn all_small_terms() {
         let (mut terms, mut states) = (0u64, 0u64);
         for (f, most) in [(0, 10), (1, 8), (2, 8)] {
             for n in 1..=most {
-                for t in all.terms(f, n).iter() { terms += 1; states += watch(f, t, 60, 2000, true); }
+                for t in all.terms(f, n).iter() { terms += 1; states += watch(f, t, 12, 2000, true); }
             }
         }
-        println!("{terms} small terms, {states} states decoded and compared with the calculus, the library at every budget");
+        println!("{terms} small terms, {states} states decoded and compared with the calculus, the library ended before every beta, enter and subst");
         print_notes();
     });
 }
@@ -73,7 +105,7 @@ fn all_small_terms() {
 fn families() {
     with_large_stack(|| {
         let mut states = 0;
-        for (_, f, t) in small_members() { states += watch(f, &t, 600, 3000, true); }
+        for (_, f, t) in small_members() { states += watch(f, &t, 120, 3000, true); }
         println!("families: {states} states");
         print_notes();
     });
@@ -88,7 +120,7 @@ fn random_terms() {
             let (f, t) = random::term(&mut r);
             if t.len() > 80 || f > 500 { continue; }
             terms += 1;
-            states += watch(f, &t, 120, 1500, false);
+            states += watch(f, &t, 25, 1500, false);
         }
         println!("{terms} random terms, {states} states");
         print_notes();

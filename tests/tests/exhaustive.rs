@@ -1,10 +1,13 @@
-//! All small terms at several budgets and store lengths, with the calculus's normal form beside.
+//! All small terms at several budgets and store lengths, with the calculus's terms beside: the normal form, and where a run is spent.
 use glow_tests::calculus;
 use glow_tests::case::{print_notes, Case};
 use glow_tests::enumerate::All;
 use glow_tests::file::check;
 use glow_tests::flat::canonical;
 use glow_tests::machine::*;
+
+/// The budget of the run that shows what a term needs, in betas.
+const MOST: u32 = 30;
 
 fn all_of(f: usize, most: usize) {
     let mut all = All::default();
@@ -16,22 +19,30 @@ fn all_of(f: usize, most: usize) {
             let c = canonical(f, t);
             let file = c.file();
             let ample = Lengths::of(400, 200, 200, 200, 200);
-            let full = Case::new(&file, 150, ample).garbage(terms).check();
+            let full = Case::new(&file, MOST, ample).garbage(terms).check();
             kinds[full.kind()] += 1;
             cases += 1;
             let run = full.run();
-            let steps = run.counts.steps() as u32;
+            let betas = run.counts.beta as u32;
             // the calculus
             let mut term = calculus::from_file(&check(&file).unwrap());
             assert_eq!(calculus::to_canonical(f, &term), c);
-            for _ in 0..run.counts.beta { term = calculus::step(&term).expect("a step of the calculus for each beta"); }
+            for _ in 0..betas { assert!(!calculus::is_fireball(&term)); term = calculus::step(&term).expect("a step of the calculus for each beta"); }
+            assert!(run.outcome != Outcome::Spent || !calculus::is_fireball(&term));
             if let Outcome::Normal(result) = &run.outcome {
-                assert!(calculus::step(&term).is_none());
+                assert!(calculus::step(&term).is_none() && calculus::is_fireball(&term));
                 assert_eq!(&calculus::to_canonical(f, &term), result);
             }
-            // budgets
-            for budget in [0, 1, 2, 3, 5, 8, steps.saturating_sub(1), steps, steps + 1] {
-                if budget < 150 { kinds[Case::new(&file, budget, ample).garbage(2).check().kind()] += 1; cases += 1; }
+            // budgets: with fewer than the betas above the term after so many is no fireball, as seen, and the run is spent
+            let mut budgets = vec![0, 1, 2, 3, 5, 8, betas.saturating_sub(1), betas, betas + 1, u32::MAX];
+            budgets.sort();
+            budgets.dedup();
+            for budget in budgets {
+                let answer = Case::new(&file, budget, ample).garbage(2).check();
+                if budget < betas { assert_eq!((&answer.run().outcome, answer.run().counts.beta), (&Outcome::Spent, budget.into())); }
+                if budget >= betas && run.outcome != Outcome::Spent { assert_eq!(answer, full); }
+                kinds[answer.kind()] += 1;
+                cases += 1;
             }
             // each store just so and one less
             if let Outcome::Normal(result) = &run.outcome {
@@ -40,7 +51,7 @@ fn all_of(f: usize, most: usize) {
                 let less = |x: usize| x.saturating_sub(1);
                 for lengths in [just, Lengths { args: less(just.args), ..just }, Lengths { nexts: less(just.nexts), ..just }, Lengths { places: less(just.places), ..just },
                     Lengths { renumber: less(just.renumber), ..just }, Lengths { out_tags: less(just.out_tags), ..just }, Lengths::of(n, 1, f + 1, f + 1, 1)] {
-                    kinds[Case::new(&file, steps, lengths).garbage(1).nulls().check().kind()] += 1;
+                    kinds[Case::new(&file, betas, lengths).garbage(1).nulls().check().kind()] += 1;
                     cases += 1;
                 }
             }

@@ -6,7 +6,8 @@ use glow_tests::machine::*;
 use glow_tests::prng::Prng;
 use glow_tests::random;
 
-const MOST: u32 = 1500;
+/// The budget of the run that shows what a term needs, in betas.
+const MOST: u32 = 300;
 
 fn cases(seed: u64, terms: usize) {
     let mut r = Prng(seed);

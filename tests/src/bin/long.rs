@@ -1,6 +1,6 @@
 //! Longer runs by hand:
 //!   long random [SEED] [TERMS]   random cases for ever, or as many terms as said; a line per 100,000 cases
-//!   long all F N                 all terms of exactly N nodes with F free names, every budget to the end
+//!   long all F N                 all terms of exactly N nodes with F free names, every budget to the betas needed and one more
 //!   long slow                    results that are slow to write, timed
 //!   long random-deep [SEED]      large random terms with glow's and the largest stores, on a large stack
 use glow_tests::case::{print_notes, Case, LIBRARY};
@@ -12,6 +12,9 @@ use glow_tests::random;
 
 fn number(at: usize, otherwise: u64) -> u64 { std::env::args().nth(at).and_then(|s| s.parse().ok()).unwrap_or(otherwise) }
 
+/// The budget of the run that shows what a random term needs, in betas.
+const MOST: u32 = 600;
+
 fn random_cases() {
     let mut r = Prng(number(2, 1));
     let terms = number(3, u64::MAX);
@@ -21,10 +24,10 @@ fn random_cases() {
         if t.len() > 16_384 { continue; }
         let mut file = canonical(f, &t).file();
         if r.one_in(3) { random::damage(&mut r, &mut file); }
-        let full = evaluate(&file, 3000, &Lengths::largest());
+        let full = evaluate(&file, MOST, &Lengths::largest());
         for _ in 0..8 {
             let lengths = random::lengths(&mut r, &full);
-            let budget = random::budget(&mut r, &full, 3000);
+            let budget = random::budget(&mut r, &full, MOST);
             let (garbage, report_len) = (if r.one_in(4) { r.below(3) as u64 } else { r.next() }, if r.one_in(40) { r.below(20) } else { 12 });
             kinds[Case { file: &file, budget, lengths, garbage, report_len, nulls: garbage % 2 == 1 }.check().kind()] += 1;
             done += 1;
@@ -64,9 +67,9 @@ fn all() {
     for t in terms.iter() {
         let file = canonical(f, t).file();
         let lengths = Lengths::of(600, 300, 300, 300, 300);
-        let full = Case::new(&file, 200, lengths).check();
+        let full = Case::new(&file, 40, lengths).check();
         cases += 1;
-        for budget in 0..full.run().counts.steps() as u32 { Case::new(&file, budget, lengths).garbage(budget as u64).check(); cases += 1; }
+        for budget in 0..full.run().counts.beta as u32 + 2 { Case::new(&file, budget, lengths).garbage(budget as u64).check(); cases += 1; }
     }
     println!("f = {f}, {n} nodes: {} terms, {cases} cases", terms.len());
 }

@@ -38,8 +38,10 @@ fn mistakes_are_found_out() {
     found_out(worked_imports, "| none | 16,385 | 10 | refused 2 |", "| none | 16,385 | 10 | refused 14 |");
     found_out(worked_imports, "| `1a 00` | 0 |", "| `1a` | 0 |");
     found_out(worked_imports, "| `20` | 0 | 9 |", "| `20` | 0 | 10 |");
-    found_out(worked_runs, "| budget 3 | normal `v0` |", "| budget 3 | spent |");
-    found_out(worked_runs, "| 21 | 3 | 5 |", "| 21 | 3 | 6 |");
+    found_out(worked_runs, "| budget 1 | normal `v0` |", "| budget 1 | spent |");
+    found_out(worked_runs, "| budget 0 | spent |", "| budget 1 | spent |");
+    found_out(worked_runs, "| budget 2 | spent |", "| budget 3 | spent |");
+    found_out(worked_runs, "| 25 | 3 | 6 |", "| 25 | 3 | 7 |");
     found_out(step_by_step, "| leave-inert | `v1` |", "| leave-fun | `v1` |");
     found_out(step_by_step, "| 11 3 4 |", "| 11 3 5 |");
     found_out(byte_by_byte, "| 29 | `02 00` |", "| 29 | `03 00` |");

@@ -58,7 +58,7 @@ pub fn sentences(text: &str) -> Checked {
     let [nodes, cells, names, renumber, output] = defined_as("crates/machine/specs/Program.antt", "glow");
     let [longest] = defined_as("crates/rendering/specs/Promise.antt", "longestText");
     let right = [
-        format!("| budget | {} steps |", grouped(budget)),
+        format!("| budget | {} beta steps |", grouped(budget)),
         format!("| node store | {} |", grouped(nodes)),
         format!("| cell store | {} |", grouped(cells)),
         format!("| name store | {} |", grouped(names)),
