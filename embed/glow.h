@@ -12,7 +12,7 @@ extern "C" {
 /* What glow_evaluate returns. */
 enum glow_status {
     GLOW_NORMAL = 0,            /* the term is in the output arrays */
-    GLOW_SPENT = 1,             /* the steps made equal the budget, and another step fits */
+    GLOW_SPENT = 1,             /* the beta steps made equal the budget, and another one is next */
     GLOW_REFUSED = 2,           /* refusal 8 to 13, its number in report[GLOW_REFUSAL] */
     GLOW_FILE_REFUSED = 3,      /* refusal 1 to 7; only report[GLOW_REFUSAL] is written, no array is changed */
     GLOW_REPORT_TOO_SHORT = 4   /* report_len is below GLOW_REPORT_LEN; nothing is touched */
@@ -74,7 +74,8 @@ enum glow_tag { GLOW_VARIABLE = 0, GLOW_ABSTRACTION = 1, GLOW_APPLICATION = 2 };
     (GLOW_STACK_FOR_A_CALL + GLOW_STACK_FOR_A_LEVEL * GLOW_LESS(cells, GLOW_LESS(nodes, GLOW_MOST_COUNTED) / 4))
 #define GLOW_MOST_STACK_NEEDED GLOW_STACK_NEEDED(GLOW_MOST_COUNTED, GLOW_MOST_COUNTED)
 
-/* No two arrays may overlap. Where a length is 0 the pointer may be anything, null too. */
+/* The budget counts beta steps: behind the last one that it allows the run goes on until no step fits, a store is full or
+   another beta is next. No two arrays may overlap. Where a length is 0 the pointer may be anything, null too. */
 uint32_t glow_evaluate(
     const uint8_t *file, size_t file_len, uint32_t budget,
     uint8_t *tags, size_t tags_len, uint16_t *args, size_t args_len,            /* node store */

@@ -183,7 +183,9 @@ impl Stores {
         stack_needed(self.tags.len().min(self.args.len()), self.codes.len().min(self.owns.len()).min(self.nexts.len()))
     }
 
-    /// Evaluates a term file with at most `budget` steps, on any thread. Where less stack is left than
+    /// Evaluates a term file with at most `budget` beta steps, on any thread. Behind the last of them the run goes on
+    /// until no step fits, a store is full or another beta is next, so [`Outcome::Spent`] says that the term needs more
+    /// beta steps. Where less stack is left than
     /// [`Stores::stack_needed`] tells, or it is not known how much, the call is made on a thread of its own.
     ///
     /// # Panics
