@@ -2,7 +2,7 @@
 use rendering::Rendered;
 ghost use Rattle.command.specs.Telling.{Tells};
 
-// The steps that a run may make.
+// The beta steps that a run may make.
 const BUDGET: u32 = 1000000;
 
 // Evaluates the term file `file` with glow's budget and stores, and writes what glow prints for it at the
