@@ -74,8 +74,9 @@ enum glow_tag { GLOW_VARIABLE = 0, GLOW_ABSTRACTION = 1, GLOW_APPLICATION = 2 };
     (GLOW_STACK_FOR_A_CALL + GLOW_STACK_FOR_A_LEVEL * GLOW_LESS(cells, GLOW_LESS(nodes, GLOW_MOST_COUNTED) / 4))
 #define GLOW_MOST_STACK_NEEDED GLOW_STACK_NEEDED(GLOW_MOST_COUNTED, GLOW_MOST_COUNTED)
 
-/* The budget counts beta steps: behind the last one that it allows the run goes on until no step fits, a store is full or
-   another beta is next. No two arrays may overlap. Where a length is 0 the pointer may be anything, null too. */
+/* The budget counts beta steps. After the last one that it allows the run goes on until no step fits, a store is full or
+   another beta is next; so GLOW_SPENT means that the term has a further beta step. Every call ends, whatever the budget.
+   No two arrays may overlap. Where a length is 0 the pointer may be anything, null too. */
 uint32_t glow_evaluate(
     const uint8_t *file, size_t file_len, uint32_t budget,
     uint8_t *tags, size_t tags_len, uint16_t *args, size_t args_len,            /* node store */

@@ -140,6 +140,7 @@ impl fmt::Display for Term {
     }
 }
 
+/// How a run ends: with its normal form, with the budget used up and another beta next, or with a refusal.
 #[derive(Clone, Debug, PartialEq, Eq)]
 pub enum Outcome { Normal { term: Term }, Spent, Refused(Refusal) }
 
@@ -183,9 +184,11 @@ impl Stores {
         stack_needed(self.tags.len().min(self.args.len()), self.codes.len().min(self.owns.len()).min(self.nexts.len()))
     }
 
-    /// Evaluates a term file with at most `budget` beta steps, on any thread. Behind the last of them the run goes on
-    /// until no step fits, a store is full or another beta is next, so [`Outcome::Spent`] says that the term needs more
-    /// beta steps. Where less stack is left than
+    /// Evaluates a term file with at most `budget` beta steps, on any thread. After the last of them the run goes on
+    /// until no step fits, a store is full or another beta is next; so [`Outcome::Spent`] says that the term has a
+    /// further beta step. Every call ends, whatever the budget.
+    ///
+    /// Where less stack is left than
     /// [`Stores::stack_needed`] tells, or it is not known how much, the call is made on a thread of its own.
     ///
     /// # Panics
