@@ -13,7 +13,7 @@ extern "C" {
 enum glow_status {
     GLOW_NORMAL = 0,            /* the term is in the output arrays */
     GLOW_SPENT = 1,             /* the beta steps made equal the budget, and another one is next */
-    GLOW_REFUSED = 2,           /* refusal 8 to 13, its number in report[GLOW_REFUSAL] */
+    GLOW_REFUSED = 2,           /* refusal 8 to 12, its number in report[GLOW_REFUSAL] */
     GLOW_FILE_REFUSED = 3,      /* refusal 1 to 7; only report[GLOW_REFUSAL] is written, no array is changed */
     GLOW_REPORT_TOO_SHORT = 4   /* report_len is below GLOW_REPORT_LEN; nothing is touched */
 };
@@ -25,7 +25,7 @@ enum glow_exchange_status {
     GLOW_EXCHANGE_REPORT_TOO_SHORT = 4  /* report_len is below GLOW_EXCHANGE_REPORT_LEN; nothing is touched */
 };
 
-/* Refusal numbers. glow_evaluate gives 1 to 13, glow_import 2, 12 and 14 to 16, glow_export 1 to 7 and 12. */
+/* Refusal numbers. glow_evaluate gives 1 to 12, glow_import 2, 12 and 14 to 16, glow_export 1 to 7 and 12. */
 enum glow_refusal {
     GLOW_FILE_TOO_SHORT = 1,    /* fewer than 4 bytes */
     GLOW_FILE_LIMITS = 2,       /* f or n outside its limits; of glow_import, f */
@@ -40,7 +40,7 @@ enum glow_refusal {
     GLOW_NO_RENUMBER = 11,      /* renumber store shorter than the names in use */
     GLOW_NO_OUTPUT = 12,        /* the term written out exceeds the output; of glow_import and glow_export, the result
                                    is longer than out */
-    GLOW_ENTRY = 13,            /* proved never to come */
+                                /* 13 is not used */
     GLOW_BITS_TOO_SHORT = 14,   /* glow_import alone: the bits end inside a term, or there are none */
     GLOW_BITS_PADDING = 15,     /* glow_import alone: the padding is not zero, or there is a spare byte */
     GLOW_BITS_LIMITS = 16       /* glow_import alone: a node beyond GLOW_MOST_FILE_NODES, or a free name not below f */

@@ -27,7 +27,7 @@ line w ws = w ++ spaced ws ++ (code "\n" ∷ [])
 abbrev pub refusedLine : ℕ → List ℕ
 refusedLine k = line (ascii "refused") (decimal k ∷ [])
 
--- "Spent prints `spent`"; "8 to 13 print that line in place of `normal`"
+-- "Spent prints `spent`"; "8 to 13 print that line in place of `normal`", where 02, request 3, takes 13 out
 abbrev pub outcomeLine : Outcome → List ℕ
 outcomeLine (normal n) = line (ascii "normal") []
 outcomeLine spent = line (ascii "spent") []

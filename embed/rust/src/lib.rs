@@ -82,15 +82,15 @@ impl FileRefusal {
     }
 }
 
-/// Refusals 8 to 13: a store is too small, or (13) an entry is of a kind that, as is proved, no run makes.
+/// Refusals 8 to 12: a store is too small. The number 13 is not used.
 #[derive(Clone, Copy, Debug, PartialEq, Eq)]
-pub enum Refusal { Cells, Nodes, Names, Renumber, Output, Entry }
+pub enum Refusal { Cells, Nodes, Names, Renumber, Output }
 
 impl Refusal {
     pub fn number(self) -> u8 { self as u8 + 8 }
     pub fn of(number: u64) -> Option<Refusal> {
         use Refusal::*;
-        [Cells, Nodes, Names, Renumber, Output, Entry].into_iter().find(|r| u64::from(r.number()) == number)
+        [Cells, Nodes, Names, Renumber, Output].into_iter().find(|r| u64::from(r.number()) == number)
     }
 }
 
@@ -222,7 +222,7 @@ impl Stores {
                 Outcome::Normal { term: Term { tags: self.out_tags[..n].to_vec(), args: self.out_args[..n].to_vec() } }
             }
             Status::Spent => Outcome::Spent,
-            Status::Refused => Outcome::Refused(Refusal::of(raw[0]).expect("a refusal from 8 to 13")),
+            Status::Refused => Outcome::Refused(Refusal::of(raw[0]).expect("a refusal from 8 to 12")),
             Status::FileRefused => {
                 return Answer::FileRefused(FileRefusal::of(raw[0]).expect("a refusal from 1 to 7"))
             }
