@@ -57,7 +57,7 @@ fn all_of(f: usize, most: usize) {
             }
         }
     }
-    println!("f = {f}: all {terms} terms to {most} nodes, {cases} cases; normal {} spent {} refusals 8.. {:?}", kinds[0], kinds[14], &kinds[8..14]);
+    println!("f = {f}: all {terms} terms to {most} nodes, {cases} cases; normal {} spent {} refusals 8.. {:?}", kinds[0], kinds[14], &kinds[8..13]);
     print_notes();
 }
 

@@ -66,7 +66,7 @@ fn every_example() {
     }
 }
 
-/// Refusals 1 to 7 by paper 01's examples, and what a run can end with. 8, 10, 11, 13, spent and the loading refusals cannot come: 16,384
+/// Refusals 1 to 7 by paper 01's examples, and what a run can end with. 8, 10, 11, spent and the loading refusals cannot come: 16,384
 /// nodes have at most 8,191 applications, and each beta has an enter before it that no other has, so that no run makes 8,192 beta steps or takes
 /// more cells or names than there are.
 #[test]

@@ -30,7 +30,7 @@ fn cases(seed: u64, terms: usize) {
             done += 1;
         }
     }
-    println!("seed {seed}: {done} cases; normal {} spent {} refusals 1.. {:?}", kinds[0], kinds[14], &kinds[1..14]);
+    println!("seed {seed}: {done} cases; normal {} spent {} refusals 1.. {:?}", kinds[0], kinds[14], &kinds[1..13]);
     for k in (0..13).chain([14]) { assert!(kinds[k] >= 10, "outcome {k} came only {} times", kinds[k]); }
     print_notes();
 }
