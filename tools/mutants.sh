@@ -132,6 +132,9 @@ try "trap 5: the output written as it is unfolded, then found too long" \
     "1 => { s.out_tags[n]" "1 => { if n == room { return None; } s.out_tags[n]" \
     "_ => { s.out_tags[n]" "_ => { if n == room { return None; } s.out_tags[n]"
 
+try "an unapplied variable with an abstraction as entry leaves like an inert one" \
+    "if s.tags[from] == 1 {" "if s.tags[from] == 1 && (stack != 0 || dump == 0) {"
+
 # the budget, for which a beta alone asks; the other places are where the other steps ask for what they need, or are made
 asked="if beta == budget as u64 { break 'run 100; }"
 cell="if cells >= cells_cap { break 'run 8; }"
