@@ -87,6 +87,19 @@ mod library {
         assert_eq!(term.to_file(1), from_text(1, "a1 v0 l1 v1").file());
     }
 
+    /// The refusals of a file and of a run have their numbers, and go there and back. 13 is no refusal's.
+    #[test]
+    fn the_wrappers_refusals() {
+        use glow::{FileRefusal, Refusal::{self, *}};
+        let numbers = || (0..30).chain([(1 << 8) + 8, (1 << 32) + 8, u64::MAX]);
+        let of_a_file: Vec<u64> = numbers().filter(|&n| FileRefusal::of(n).is_some()).collect();
+        let of_a_run: Vec<u64> = numbers().filter(|&n| Refusal::of(n).is_some()).collect();
+        assert_eq!((&of_a_file[..], &of_a_run[..]), (&[1, 2, 3, 4, 5, 6, 7][..], &[8, 9, 10, 11, 12][..]));
+        for n in of_a_file { assert_eq!(u64::from(FileRefusal::of(n).unwrap().number()), n); }
+        for n in of_a_run { assert_eq!(u64::from(Refusal::of(n).unwrap().number()), n); }
+        assert_eq!([Cells, Nodes, Names, Renumber, Output].map(Refusal::number), [8, 9, 10, 11, 12]);
+    }
+
     /// Builds and runs each example of embed/rust/examples.
     #[test]
     fn the_rust_examples() {

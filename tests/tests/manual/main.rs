@@ -42,10 +42,16 @@ fn one(mut all: Vec<Table>, what: &str) -> Result<Table, String> {
 /// The one table whose head begins so.
 fn table(text: &str, head: &[&str]) -> Result<Table, String> { one(tables_with(text, head)?, &format!("{head:?}")) }
 
-/// The numbers that a C enum of the header gives its names.
-fn c_enum(name: &str) -> Vec<(String, usize)> {
-    let header = read("embed/glow.h");
-    let body = header.split(&format!("enum {name} {{")).nth(1).expect("the enum").split("};").next().unwrap();
-    let code: String = body.split("/*").map(|piece| piece.split("*/").last().unwrap()).collect();
-    code.split(',').filter_map(|item| item.split_once('=')).map(|(name, n)| (name.trim().to_string(), n.trim().parse().expect("a number"))).collect()
+fn header() -> String { read("embed/glow.h") }
+
+/// The inside of an enum of the header, with its comments.
+fn c_enum_text<'a>(header: &'a str, name: &str) -> &'a str {
+    header.split(&format!("enum {name} {{")).nth(1).expect("the enum").split("};").next().unwrap()
+}
+
+/// The constants of an enum of the header. Each has its number written down.
+fn c_enum(header: &str, name: &str) -> Vec<(String, usize)> {
+    let code: String = c_enum_text(header, name).split("/*").map(|piece| piece.split("*/").last().unwrap()).collect();
+    let constants = code.split(',').map(str::trim).filter(|item| !item.is_empty()).map(|item| item.split_once('=').expect("a number"));
+    constants.map(|(name, n)| (name.trim().to_string(), n.trim().parse().expect("a number"))).collect()
 }

@@ -2,17 +2,19 @@
 use crate::links::links_lead;
 use crate::named::{arrays, constants, definitions, header_table, promises, sentences};
 use crate::shown::{outputs, pairs, Place};
-use crate::tried::{byte_by_byte, refusals, step_by_step, worked_imports, worked_runs};
-use crate::{manual, Checked};
+use crate::tried::{byte_by_byte, refusals, refusals_in_c, step_by_step, worked_imports, worked_runs};
+use crate::{header, manual, Checked};
 use glow_tests::process::root;
 
-/// A mistake put into the manual, which a check must find.
-fn found_out(check: impl Fn(&str) -> Checked, from: &str, to: &str) {
-    let text = manual();
-    assert!(text.contains(from), "the manual does not have {from:?}");
-    check(&text).unwrap();
+/// A mistake put into a text, which a check must find.
+fn found_out_in(text: &str, check: impl Fn(&str) -> Checked, from: &str, to: &str) {
+    assert!(text.contains(from), "{from:?} is not there");
+    check(text).unwrap();
     assert!(check(&text.replacen(from, to, 1)).is_err(), "{to:?} for {from:?} was not found out");
 }
+
+/// One put into the manual.
+fn found_out(check: impl Fn(&str) -> Checked, from: &str, to: &str) { found_out_in(&manual(), check, from, to) }
 
 /// The block of this command, and its output.
 fn one_pair(text: &str, command: &str) -> String {
@@ -26,8 +28,11 @@ fn mistakes_are_found_out() {
     found_out(refusals, "cells 0", "cells 1");
     found_out(refusals, "output 3", "output 4");
     found_out(refusals, "`GLOW_NO_NODES` |", "`GLOW_NO_NAMES` |");
-    found_out(refusals, "`Chain` |", "`Entry` |");
+    found_out(refusals, "| `Cells` | `GLOW", "| `Nodes` | `GLOW");
     found_out(refusals, "`Unbound`", "`Variable`");
+    found_out(refusals, "| 13 | not used", "| 13 | used");
+    for named in ["| `v0` | – | – | – |", "| – | `Chain` | – | – |", "| – | – | `GLOW_ENTRY` | – |", "| – | – | – | `Entry` |"] { found_out(refusals, "| – | – | – | – |", named); }
+    for (from, to) in [("/* 13 is not used */", "GLOW_ENTRY = 13,"), ("/* 13 is not used */", ""), ("GLOW_NO_OUTPUT = 12,", "GLOW_NO_OUTPUT = 13,")] { found_out_in(&header(), refusals_in_c, from, to); }
     found_out(refusals, "| 14 | the bits end", "| 16 | the bits end");
     found_out(refusals, "`00`, f = 0 |", "`80`, f = 0 |");
     found_out(refusals, "`80`, f = 0 |", "`80`, f = 1 |");

@@ -1,5 +1,5 @@
 //! Names and numbers of the manual, held against the header, the Rust crate, the code and the definitions.
-use crate::{c_enum, manual, need, number, one, read, same, table, tables_with, Checked};
+use crate::{c_enum, header, manual, need, number, one, read, same, table, tables_with, Checked};
 use glow_tests::markdown::{links, quoted, tables, Table};
 use glow_tests::process::root;
 use std::path::Path;
@@ -9,7 +9,7 @@ fn grouped(n: usize) -> String { if n < 1000 { n.to_string() } else { format!("{
 
 /// A table of numbers and names of the header: the one with names of this enum, which has exactly these, in this order.
 pub fn header_table(text: &str, head: &str, name: &str) -> Checked {
-    let right: Vec<(String, usize)> = c_enum(name).into_iter().filter(|(name, _)| name != "GLOW_REPORT_LEN").collect();
+    let right: Vec<(String, usize)> = c_enum(&header(), name).into_iter().filter(|(name, _)| name != "GLOW_REPORT_LEN").collect();
     let of_the_enum = |row: &Vec<String>| right.iter().any(|(name, _)| quoted(&row[1]).contains(name));
     let rows = one(tables_with(text, &[head, "name"])?.into_iter().filter(|t| t.rows.iter().any(of_the_enum)).collect(), name)?.rows;
     let shown: Vec<(String, usize)> = rows.iter().map(|row| Ok((quoted(&row[1]).concat(), number(&row[0])?))).collect::<Result<_, String>>()?;
@@ -19,7 +19,7 @@ pub fn header_table(text: &str, head: &str, name: &str) -> Checked {
 
 pub fn constants(text: &str) -> Checked {
     let rows: Vec<Vec<String>> = tables_with(text, &["what", "in C", "in Rust", "number"])?.into_iter().flat_map(|table| table.rows).collect();
-    let header = read("embed/glow.h");
+    let header = header();
     for row in &rows {
         let (c, rust, n) = (quoted(&row[1]).concat(), quoted(&row[2]).concat(), number(&row[3])?);
         let right = match rust.as_str() {

@@ -1,5 +1,5 @@
 //! The manual's refusals, worked runs, worked imports and worked file, each tried.
-use crate::{c_enum, manual, need, number, read, same, table, Checked};
+use crate::{c_enum, c_enum_text, header, manual, need, number, read, same, table, Checked};
 use glow_tests::binary::fitted;
 use glow_tests::case::{told, Case};
 use glow_tests::exchange::{check_wrapper, Exchange, Given};
@@ -15,14 +15,20 @@ fn rattle_case(path: &str, n: usize) -> Option<String> {
     read(path).lines().find_map(|line| line.trim().strip_prefix("Refusal::")?.strip_suffix(&end).map(String::from))
 }
 
-fn right_names(n: usize) -> [String; 3] {
+/// The one number from 1 to 16 that is no refusal's.
+const NOT_USED: usize = 13;
+
+/// The names of a refusal in Rattle, C and Rust. The number that is not used has none.
+fn right_names(n: usize) -> Result<[String; 3], String> {
     let (source, rust) = match n {
-        1..=7 => ("crates/termfile/src/lib.rt", format!("{:?}", glow::FileRefusal::of(n as u64).unwrap())),
-        8..=13 => ("crates/stepping/src/lib.rt", format!("{:?}", glow::Refusal::of(n as u64).unwrap())),
-        _ => ("crates/binary/src/lib.rt", format!("{:?}", glow::ExchangeRefusal::of(n as u64).unwrap())),
+        1..=7 => ("crates/termfile/src/lib.rt", glow::FileRefusal::of(n as u64).map(|refusal| format!("{refusal:?}"))),
+        8..=13 => ("crates/stepping/src/lib.rt", glow::Refusal::of(n as u64).map(|refusal| format!("{refusal:?}"))),
+        _ => ("crates/binary/src/lib.rt", glow::ExchangeRefusal::of(n as u64).map(|refusal| format!("{refusal:?}"))),
     };
-    let c = c_enum("glow_refusal").into_iter().find(|(_, k)| *k == n).expect("a constant").0;
-    [rattle_case(source, n).expect("a case"), c, rust]
+    let c = c_enum(&header(), "glow_refusal").into_iter().find(|(_, k)| *k == n).map(|(name, _)| name);
+    let names = [rattle_case(source, n), c, rust];
+    need(names.iter().all(|name| name.is_some() == (n != NOT_USED)), || format!("the names of {n} in Rattle, C and Rust: {names:?}"))?;
+    Ok(names.map(|name| name.map_or("–".into(), |name| format!("`{name}`"))))
 }
 
 /// Bytes in hexadecimal, which stand in backquotes.
@@ -105,19 +111,25 @@ pub fn refusals(text: &str) -> Checked {
         match n {
             1..=7 => refused_file(n, &row[2])?,
             8..=12 => refused_run(n, &row[2])?,
-            13 => need(row[2].starts_with("none"), || row[2].clone())?,
+            NOT_USED => need(row[1].starts_with("not used") && row[2] == "–", || format!("{row:?}"))?,
             _ => refused_bits(n, &row[2])?,
         }
-        same(&format!("refusal {n}"), [&row[3], &row[4], &row[5]].map(|cell| quoted(cell).concat()), right_names(n))?;
+        same(&format!("refusal {n}"), &row[3..], &right_names(n)?)?;
     }
     Ok(rows.len())
 }
 
-#[test]
-fn each_refusal() {
-    assert_eq!(refusals(&manual()), Ok(16));
-    assert_eq!(c_enum("glow_refusal").len(), 16);
+/// The header has a constant for each number but the one that is not used, in whose place a comment says so.
+pub fn refusals_in_c(header: &str) -> Checked {
+    let numbers: Vec<usize> = c_enum(header, "glow_refusal").into_iter().map(|(_, n)| n).collect();
+    same("the header's refusals", &numbers, &(1..=16).filter(|&n| n != NOT_USED).collect())?;
+    let place = c_enum_text(header, "glow_refusal").split_once("= 12,").and_then(|(_, rest)| rest.split_once("= 14,")).unwrap_or_default().0;
+    need(place.contains("/* 13 is not used */"), || "the header does not say that 13 is not used".into())?;
+    Ok(numbers.len())
 }
+
+#[test]
+fn each_refusal() { assert_eq!((refusals(&manual()), refusals_in_c(&header())), (Ok(16), Ok(15))); }
 
 const IMPORTS: [&str; 5] = ["bits", "f", "output", "answer", "why"];
 
