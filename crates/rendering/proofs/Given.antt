@@ -13,13 +13,13 @@ use lib.ListN.{length, take, drop, length-append, length-map}
 use lib.Seq.{take-append-seam, take-length}
 use Rattle.termfile.specs.Nodes.{Node}
 use Rattle.termfile.specs.File.{tags, refusal, count, pairs}
+use Rattle.termfile.proofs.Acceptance.{accepted, count-few}
 use Rattle.machine.specs.Steps.{Kind, Move}
 use Rattle.machine.specs.Run.{Stores, Run, counted, shifts, shiftAllowance}
 use Rattle.machine.specs.Conditions.{Condition, result-fits, result-refused, run-spent, run-refused}
 use Rattle.termfile.specs.Output.{overlay}
 use Rattle.machine.specs.Answer.{Outcome, normal, spent, refused, Report, Answer, written, outputLimit}
 use Rattle.machine.specs.Demands.{Demand2, Demand3, Meets, file-refused, file-run}
-use Rattle.stepping.proofs.Loadable.{count-few}
 use Rattle.evaluator.specs.Calling.{told}
 use Rattle.evaluator.specs.Promise.{Memory, storesIn, Called}
 use Rattle.evaluator.specs.declared.Answer as enum
@@ -61,7 +61,7 @@ steps-fit {s} {budget} {st} {r} {q} accepts few d =
       c .leave-funs,
       c .leave-inerts,
       d .is-run .in-budget,
-      mul-le-mul-left ((1 + betas) * 2) (count-few s accepts 2),
+      mul-le-mul-left ((1 + betas) * 2) (count-few (accepted s accepts) 2),
     )
 
 -- nodes by their tags and arguments

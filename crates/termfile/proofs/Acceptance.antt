@@ -11,7 +11,7 @@ use borrow.Author.Tests.{leb-true, eqb-true}
 use Rattle.termfile.specs.Code.{Code, weigh, only, size, numbered, scoped}
 use Rattle.termfile.specs.Nodes.{write}
 use Rattle.termfile.specs.File.{maxFree, maxNodes, freeNames, nodeCount, tags, nodes, codeOf, codeFrom, fileCode, known, holds, unless, longEnough, inLimits, exactLength, tagsKnown, oneTerm, bindersInPlace, variablesInScope, refusal, count}
-use Rattle.termfile.proofs.Reading.{read-is, length-write, count-write}
+use Rattle.termfile.proofs.Reading.{read-is, length-write, count-write, weigh-only-le}
 use Rattle.termfile.proofs.Bytes.{tags-nodes, length-nodes}
 use Rattle.termfile.proofs.Refusals.{unless-none, framed-refusal}
 
@@ -85,6 +85,10 @@ module _ {s : List ℕ} (a : Accepted s) where
 
   pub count-code : (k : ℕ) → count k (tags s) ≡ weigh (only k) (a .code)
   count-code k = rw (← tags-nodes s (a .exact), nodes-code) (count-write k (a .code))
+
+  -- the counts are small
+  pub count-few : (k : ℕ) → count k (tags s) ≤ 16384
+  count-few k = omega (arith, count-code k, weigh-only-le k (a .code), size-code, a .nodes-limit)
 
 -- The numbers of the refusals
 

@@ -22,7 +22,7 @@ const NOT_USED: usize = 13;
 fn right_names(n: usize) -> Result<[String; 3], String> {
     let (source, rust) = match n {
         1..=7 => ("crates/termfile/src/lib.rt", glow::FileRefusal::of(n as u64).map(|refusal| format!("{refusal:?}"))),
-        8..=13 => ("crates/stepping/src/lib.rt", glow::Refusal::of(n as u64).map(|refusal| format!("{refusal:?}"))),
+        8..=13 => ("crates/tally/src/lib.rt", glow::Refusal::of(n as u64).map(|refusal| format!("{refusal:?}"))),
         _ => ("crates/binary/src/lib.rt", glow::ExchangeRefusal::of(n as u64).map(|refusal| format!("{refusal:?}"))),
     };
     let c = c_enum(&header(), "glow_refusal").into_iter().find(|(_, k)| *k == n).map(|(name, _)| name);

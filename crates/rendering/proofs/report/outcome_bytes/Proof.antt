@@ -3,7 +3,7 @@
 use mathlib.Core.Path.{ap}
 use native.Mathlib.Omega.{arith}
 use lib.ListN.{length}
-use Rattle.stepping.specs.Choosing.{number}
+use Rattle.tally.specs.Numbers.{number}
 use Rattle.evaluator.specs.Calling.{toldOutcome}
 use borrow.Author.Needs.{needs}
 use Rattle.rendering.specs.Lines.{outcomeLine}
