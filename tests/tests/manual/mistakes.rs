@@ -1,4 +1,4 @@
-//! The checks themselves: each is tried on a manual with a mistake in it.
+//! The checks themselves: each is tried on a manual or a header with a mistake in it.
 use crate::links::links_lead;
 use crate::named::{arrays, constants, definitions, header_table, promises, sentences};
 use crate::shown::{outputs, pairs, Place};
