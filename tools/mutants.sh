@@ -132,6 +132,7 @@ try "trap 5: the output written as it is unfolded, then found too long" \
     "1 => { s.out_tags[n]" "1 => { if n == room { return None; } s.out_tags[n]" \
     "_ => { s.out_tags[n]" "_ => { if n == room { return None; } s.out_tags[n]"
 
+# 02, request 3: a run would consult an entry that holds a variable which itself has an abstraction as entry
 try "an unapplied variable with an abstraction as entry leaves like an inert one" \
     "if s.tags[from] == 1 {" "if s.tags[from] == 1 && (stack != 0 || dump == 0) {"
 
