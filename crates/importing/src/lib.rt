@@ -57,7 +57,8 @@ fn import_in(
             if !is_padding(bits, rest) {
                 return Converted::Refused(Refusal::Padding);
             }
-            let bytes = 4 + 3 * n;
+            // In 32 bits: no product here is wider than that, except by a power of two (02, request 4).
+            let bytes = (4 + 3 * (n as u32)) as usize;
             if out.len() < bytes {
                 return Converted::Refused(Refusal::Output);
             }

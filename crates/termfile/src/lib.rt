@@ -115,7 +115,8 @@ pub fn check(file: &[u8]) -> Checked
     if n > MAX_NODES {
         return Checked::Refused(Refusal::Limits);
     }
-    if file.len() != 4 + 3 * n {
+    // In 32 bits: no product here is wider than that, except by a power of two (02, request 4).
+    if file.len() != (4 + 3 * (n as u32)) as usize {
         return Checked::Refused(Refusal::Length);
     }
     if !tags_known(file, n) {

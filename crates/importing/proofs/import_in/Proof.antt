@@ -57,11 +57,17 @@ returns c =
     let few = k .before .before .before .before .before .before .before .before .before .before .before .before .before .before .before .before .before .before .before .before .before .before .pre .0 in
     converts-refused Padding (a .out .now) (not-padding w few (sym (c .before .is-padding .ensures) ∙ not-true _ (c .if1 .taken)))
 
+cast-bytes : tie.Need-cast-bytes
+cast-bytes c = omega (arith, read-here (c .before .before) .few)
+
 mul-bytes : tie.Need-mul-bytes
 mul-bytes c = omega (arith, read-here (c .before .before) .few)
 
 add-bytes : tie.Need-add-bytes
 add-bytes c = omega (arith, read-here (c .before .before) .few)
+
+cast-bytes-2 : tie.Need-cast-bytes-2
+cast-bytes-2 c = omega (arith, read-here (c .before .before) .few)
 
 same-length-5 : tie.Need-same-length-5
 same-length-5 c = search needs
@@ -178,8 +184,10 @@ import-in-spec =
     same-length-3
     same-length-4
     returns
+    cast-bytes
     mul-bytes
     add-bytes
+    cast-bytes-2
     same-length-5
     same-length-6
     same-length-7

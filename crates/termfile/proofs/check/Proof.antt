@@ -65,11 +65,17 @@ returns-4 c =
     let n = c .before .before .before .word-at2 in
     rw (refused-limits s (long-enough s (omega arith)) (many-nodes s (omega (arith, f .ensures)) (omega (arith, n .ensures)) (omega (arith, n .ensures))))
 
+cast-if5 : tie.Need-cast-if5
+cast-if5 c = omega arith
+
 mul-if5 : tie.Need-mul-if5
 mul-if5 c = omega arith
 
 add-if5 : tie.Need-add-if5
 add-if5 c = omega arith
+
+cast-if5-2 : tie.Need-cast-if5-2
+cast-if5-2 c = omega arith
 
 returns-5 : tie.Need-returns-5
 returns-5 c =
@@ -123,8 +129,10 @@ check-spec =
     returns-2
     returns-3
     returns-4
+    cast-if5
     mul-if5
     add-if5
+    cast-if5-2
     returns-5
     tags-known-requires
     returns-6
