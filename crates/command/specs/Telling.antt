@@ -5,15 +5,16 @@ use mathlib.Core.Path.{_≡_}
 use mathlib.Core.List.{List}
 use lib.ListN.{length}
 use Rattle.termfile.specs.Output.{overlay}
+use Rattle.machine.specs.declared.Machine.the-variants.{First}
 use Rattle.machine.specs.Program.{million, glow}
 use Rattle.rendering.specs.Lines.{textOf}
 use Rattle.rendering.specs.Promise.{longestText}
 use Rattle.rendering.specs.declared.Rendered.{Rendered}
 use Rattle.rendering.specs.declared.Rendered.the-variants.{Written, TooShort}
 
--- 01, Runs worked through: the lines for these bytes, with glow's budget and stores
+-- 01, Runs worked through: the lines for these bytes, on the first machine with glow's budget and stores
 abbrev pub glowText : List ℕ → List ℕ
-glowText s = textOf s million glow
+glowText s = textOf First s million glow
 
 pub record Tells (s : List ℕ) (q : Rendered) (l l′ : List ℕ) : Type 0 where
   -- an array that is long enough begins with the text afterwards, and nothing past it changes

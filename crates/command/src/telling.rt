@@ -1,13 +1,14 @@
 // What glow prints, written into a lent array.
+use machine::Machine;
 use rendering::Rendered;
 ghost use Rattle.command.specs.Telling.{Tells};
 
 // The beta steps that a run may make.
 const BUDGET: u32 = 1000000;
 
-// Evaluates the term file `file` with glow's budget and stores, and writes what glow prints for it at the
-// front of `text`. Wrong texts that the contract rules out, each tried in must-fail/: that of a run with
-// another budget, and that of a run with fewer nodes.
+// Evaluates the term file `file` on the first machine with glow's budget and stores, and writes what glow
+// prints for it at the front of `text`. Wrong texts that the contract rules out, each tried in must-fail/:
+// that of a run with another budget, with fewer nodes, and on demand.
 pub fn tell(file: &[u8], text: &mut [u8]) -> Rendered
     ensures { λ q. ⌜ Tells (now (file .entry)) q (now (text .entry)) (now (text .exit)) ⌝ }
 {
@@ -21,6 +22,7 @@ pub fn tell(file: &[u8], text: &mut [u8]) -> Rendered
     let mut out_tags = [0u8; 16384];
     let mut out_args = [0u16; 16384];
     let answer = evaluator::evaluate(
+        Machine::First,
         file,
         BUDGET,
         &mut tags,

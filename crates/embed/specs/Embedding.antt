@@ -1,14 +1,25 @@
 -- What a call from another language returns: a status, and numbers in the report array.
--- Letters: s are the file's bytes, q is the status, m and m′ what the stores hold before and after, r and r′ the report array.
+-- Letters: k is the number of a machine, s are the file's bytes, q is the status, m and m′ what the stores hold before and after, r and r′
+-- the report array.
 use Prim.Native.Nat.{ℕ, _≤_, _<_}
 use mathlib.Core.Path.{_≡_}
+use mathlib.Core.Bool.{cond}
 use mathlib.Core.List.{List, [], _∷_}
+use lib.Dec.{eqb}
 use lib.ListN.{length}
+use Rattle.machine.specs.declared.Machine.{Machine}
+use Rattle.machine.specs.declared.Machine.the-variants.{First, OnDemand}
 use Rattle.machine.specs.Answer as machine
 use Rattle.termfile.specs.Output.{overlay}
 use Rattle.machine.specs.Answer.{answer}
 use Rattle.evaluator.specs.Promise.{Memory, storesIn, Called}
 use Rattle.evaluator.specs.declared.Answer.{Answer}
+use Rattle.embed.specs.declared.Named.{Named}
+use Rattle.embed.specs.declared.Named.the-variants.{Known, Unknown}
+
+-- the machine of a number: 0 the first, 1 on demand
+abbrev pub namedBy : ℕ → Named
+namedBy k = cond (eqb k 0) (Known First) (cond (eqb k 1) (Known OnDemand) Unknown)
 
 -- 0 a normal form, 1 spent, 2 a refusal of the run
 abbrev pub outcomeStatus : machine.Outcome → ℕ
@@ -39,12 +50,27 @@ numbersOf (machine.report r) =
     refusalOf (r .outcome) ∷ writtenOf (r .outcome) ∷ r .beta ∷ r .subst ∷ r .enter ∷ r .leave-fun ∷ r .leave-inert ∷ r .nodes ∷ r .cells ∷ r .names
     ∷ r .subst-allowance ∷ r .shift-allowance ∷ []
 
-pub record Embedded (s : List ℕ) (budget q : ℕ) (m m′ : Memory) (r r′ : List ℕ) : Type 0 where
+-- what is promised of a call with a number that is no machine's: the status 5, and nothing is touched
+pub record NoSuchMachine (q : ℕ) (m m′ : Memory) (r r′ : List ℕ) : Type 0 where
+  pub status-five : q ≡ 5
+  pub report-kept : r′ ≡ r
+  pub memory-kept : m′ ≡ m
+
+-- of a call on the machine M
+pub record EmbeddedOn (M : Machine) (s : List ℕ) (budget q : ℕ) (m m′ : Memory) (r r′ : List ℕ) : Type 0 where
   -- a report array of fewer than 12 elements is refused with the status 4, and nothing is touched
   pub short-status : length r < 12 → q ≡ 4
   pub short-report : length r < 12 → r′ ≡ r
   pub short-memory : length r < 12 → m′ ≡ m
-  -- else all that is promised of a call holds, and the status and the numbers are those of its answer
-  pub called : 12 ≤ length r → (a : Answer) × Called s budget a m m′
-  pub status : 12 ≤ length r → q ≡ statusOf (answer s budget (storesIn m))
-  pub numbers : 12 ≤ length r → r′ ≡ overlay (numbersOf (answer s budget (storesIn m))) r
+  -- else all that is promised of a call on the machine holds, and the status and the numbers are those of its answer
+  pub called : 12 ≤ length r → (a : Answer) × Called M s budget a m m′
+  pub status : 12 ≤ length r → q ≡ statusOf (answer M s budget (storesIn m))
+  pub numbers : 12 ≤ length r → r′ ≡ overlay (numbersOf (answer M s budget (storesIn m))) r
+
+-- of a call with a number, by what it names
+pub data EmbeddedBy (s : List ℕ) (budget q : ℕ) (m m′ : Memory) (r r′ : List ℕ) : Named → Type 0 where
+  on-machine : (M : Machine) → EmbeddedOn M s budget q m m′ r r′ → EmbeddedBy s budget q m m′ r r′ (Known M)
+  no-machine : NoSuchMachine q m m′ r r′ → EmbeddedBy s budget q m m′ r r′ Unknown
+
+abbrev pub Embedded : ℕ → List ℕ → ℕ → ℕ → Memory → Memory → List ℕ → List ℕ → Type 0
+Embedded k s budget q m m′ r r′ = EmbeddedBy s budget q m m′ r r′ (namedBy k)

@@ -1,13 +1,15 @@
 // The evaluator for programs in other languages: numbers and slices only.
 //
-// `glow_evaluate` evaluates one term file and returns a status: 0 a normal form is written, 1 the budget
-// is spent, 2 the run is refused, 3 the file is refused, 4 the report array has fewer than 12 elements.
+// `glow_evaluate` evaluates one term file, on the machine of a number: 0 the first, 1 on demand. It returns
+// a status: 0 a normal form is written, 1 the budget is spent, 2 the run is refused, 3 the file is refused,
+// 4 the report array has fewer than 12 elements, 5 the number is no machine's.
 // The report array then begins with: the refusal's number or 0, the nodes written or 0, the steps beta,
 // subst, enter, leave-fun and leave-inert, the nodes, cells and names taken, and the allowances for
 // substs and shifts. Where the file is refused only the number is written.
 use evaluator::Answer;
 use evaluator::Outcome;
 use evaluator::Report;
+use machine::Machine;
 ghost use mathlib.Core.Path.{_≡_};
 ghost use Prim.Native.Nat.{_≤_};
 ghost use lib.ListN.{length};
@@ -15,7 +17,23 @@ ghost use Rattle.termfile.specs.Output.{overlay};
 ghost use Rattle.machine.specs.Answer.{report as reported};
 ghost use Rattle.evaluator.specs.Calling.{toldOutcome, toldReport};
 ghost use Rattle.evaluator.specs.Promise.{memory};
-ghost use Rattle.embed.specs.Embedding.{outcomeStatus, refusalOf, writtenOf, numbersOf, Embedded};
+ghost use Rattle.embed.specs.Embedding.{namedBy, outcomeStatus, refusalOf, writtenOf, numbersOf, Embedded};
+
+// The machine that a number names, if it names one.
+pub enum Named {
+    Known(Machine),
+    Unknown,
+}
+
+fn machine_of(number: u32) -> Named
+    ensures { λ q. ⌜ q ≡ namedBy number ⌝ }
+{
+    match number {
+        0 => Named::Known(Machine::First),
+        1 => Named::Known(Machine::OnDemand),
+        _ => Named::Unknown,
+    }
+}
 
 // A run's refusal, or 0.
 fn refusal_of(outcome: Outcome) -> u64
@@ -71,6 +89,7 @@ fn write_report(r: Report, report: &mut [u64])
 
 #[no_mangle]
 pub extern "C" fn glow_evaluate(
+    machine: u32,
     file: &[u8],
     budget: u32,
     tags: &mut [u8],
@@ -84,15 +103,20 @@ pub extern "C" fn glow_evaluate(
     out_args: &mut [u16],
     report: &mut [u64],
 ) -> u32
-    ensures { λ q. ⌜ Embedded (now (file .entry)) budget q
+    ensures { λ q. ⌜ Embedded machine (now (file .entry)) budget q
         (memory (now (tags .entry)) (now (args .entry)) (now (codes .entry)) (now (owns .entry)) (now (nexts .entry)) (now (places .entry)) (now (renumber .entry)) (now («out_tags» .entry)) (now («out_args» .entry)))
         (memory (now (tags .exit)) (now (args .exit)) (now (codes .exit)) (now (owns .exit)) (now (nexts .exit)) (now (places .exit)) (now (renumber .exit)) (now («out_tags» .exit)) (now («out_args» .exit)))
         (now (report .entry)) (now (report .exit)) ⌝ }
 {
+    let named = machine_of(machine);
+    let Named::Known(chosen) = named else {
+        return 5;
+    };
     if report.len() < 12 {
         return 4;
     }
     let answer = evaluator::evaluate(
+        chosen,
         file,
         budget,
         tags,

@@ -90,6 +90,7 @@ fn with_arrays<'a>(name: &[u8], numbers: &[u8], other: &'a [u8], file: &'a [u8])
         let i = length_in(round, numbers, 9);
         let j = length_in(round, numbers, 10);
         let answer = evaluator::evaluate(
+            machine::Machine::First,
             file_of(round, other, file),
             budget_of(round, numbers),
             &mut tags[..a],

@@ -14,6 +14,7 @@ use lib.Seq.{take-append-seam, take-length}
 use Rattle.termfile.specs.Nodes.{Node}
 use Rattle.termfile.specs.File.{tags, refusal, count, pairs}
 use Rattle.termfile.proofs.Acceptance.{accepted, count-few}
+use Rattle.machine.specs.declared.Machine.{Machine}
 use Rattle.machine.specs.Steps.{Kind, Move}
 use Rattle.machine.specs.Run.{Stores, Run, counted, shifts, shiftAllowance}
 use Rattle.machine.specs.Conditions.{Condition, result-fits, result-refused, run-spent, run-refused}
@@ -26,13 +27,13 @@ use Rattle.evaluator.specs.declared.Answer as enum
 use Rattle.rendering.specs.Lines.{shiftSum, lines, textOf}
 use Rattle.rendering.specs.Promise.{nodesWritten, nodesIn, Tellable}
 
-condition-fits : {s : List ℕ} {budget : ℕ} {st : Stores} {r : Run} {o : Outcome} → Condition s budget st r o → nodesWritten o ≤ st .output
+condition-fits : {M : Machine} {s : List ℕ} {budget : ℕ} {st : Stores} {r : Run} {o : Outcome} → Condition M s budget st r o → nodesWritten o ≤ st .output
 condition-fits (result-fits e n h) = h
 condition-fits (result-refused k e h) = zero-le
 condition-fits (run-spent e) = zero-le
 condition-fits (run-refused k e) = zero-le
 
-written-count : {s : List ℕ} {budget : ℕ} {st : Stores} {r : Run} {q : Report} {ns : List Node} → Demand2 s budget st r q ns
+written-count : {M : Machine} {s : List ℕ} {budget : ℕ} {st : Stores} {r : Run} {q : Report} {ns : List Node} → Demand2 M s budget st r q ns
     → nodesWritten (q .outcome) ≡ length ns
 written-count {q = q} {ns = ns} d = by (q .outcome) refl
   where
@@ -46,8 +47,8 @@ shifts-are [] = refl
 shifts-are (m ∷ ms) = omega (arith, shifts-are ms)
 
 -- the shifting steps are within their allowance, and that of a budget of 32 bits is a number of 64
-steps-fit : {s : List ℕ} {budget : ℕ} {st : Stores} {r : Run} {q : Report} → refusal s ≡ none → budget < 2 ^ 32 → Demand3 s budget st r q → shiftSum q < 2 ^ 64
-steps-fit {s} {budget} {st} {r} {q} accepts few d =
+steps-fit : {M : Machine} {s : List ℕ} {budget : ℕ} {st : Stores} {r : Run} {q : Report} → refusal s ≡ none → budget < 2 ^ 32 → Demand3 M s budget st r q → shiftSum q < 2 ^ 64
+steps-fit {s = s} {budget = budget} {st = st} {r = r} {q = q} accepts few d =
     let betas = counted Kind.beta (r .steps) in
     let within : shifts (r .steps) ≤ shiftAllowance betas (count 2 (tags s)) =
     subst (λ ms. shifts ms ≤ shiftAllowance (counted Kind.beta ms) (count 2 (tags s))) (take-length (r .steps))
@@ -81,7 +82,7 @@ pub record Given (a : Answer) (ns : List Node) (ts ms : List ℕ) : Type 0 where
   pub tellable : Tellable a ts ms
   pub nodes-are : nodesIn a ts ms ≡ ns
 
-meets-given : {s : List ℕ} {budget : ℕ} {st : Stores} {a : Answer} {ns : List Node} → budget < 2 ^ 32 → st .output ≤ outputLimit → Meets s budget st a ns
+meets-given : {M : Machine} {s : List ℕ} {budget : ℕ} {st : Stores} {a : Answer} {ns : List Node} → budget < 2 ^ 32 → st .output ≤ outputLimit → Meets M s budget st a ns
     → (ts ms : List ℕ) → Given a ns (overlay (map (λ n. n .tag) ns) ts) (overlay (map (λ n. n .argument) ns) ms)
 meets-given few limit (file-refused k e) ts ms = record { tellable = tt; nodes-are = refl }
 meets-given few limit (file-run r q ns e two three) ts ms =
@@ -108,15 +109,15 @@ meets-given few limit (file-run r q ns e two three) ts ms =
     }
 
 -- of a call
-pub called-given : {s : List ℕ} {budget : ℕ} {q : enum.Answer} {m m′ : Memory} → budget < 2 ^ 32 → Called s budget q m m′
-    → Given (told q) (written s budget (storesIn m)) (m′ .output-tags) (m′ .output-arguments)
-called-given {s} {budget} {q} {m} {m′} few c =
-    subst₂ (λ ts ms. Given (told q) (written s budget (storesIn m)) ts ms) (sym (c .output-tags-are)) (sym (c .output-arguments-are))
+pub called-given : {M : Machine} {s : List ℕ} {budget : ℕ} {q : enum.Answer} {m m′ : Memory} → budget < 2 ^ 32 → Called M s budget q m m′
+    → Given (told q) (written M s budget (storesIn m)) (m′ .output-tags) (m′ .output-arguments)
+called-given {M} {s} {budget} {q} {m} {m′} few c =
+    subst₂ (λ ts ms. Given (told q) (written M s budget (storesIn m)) ts ms) (sym (c .output-tags-are)) (sym (c .output-arguments-are))
     (meets-given few (omega arith) (c .meets) (m .output-tags) (m .output-arguments))
 
 -- the text that is rendered after a call is the text of the call
-pub called-text : {s : List ℕ} {budget : ℕ} {q : enum.Answer} {m m′ : Memory} → budget < 2 ^ 32 → Called s budget q m m′
-    → lines (told q) (nodesIn (told q) (m′ .output-tags) (m′ .output-arguments)) ≡ textOf s budget (storesIn m)
+pub called-text : {M : Machine} {s : List ℕ} {budget : ℕ} {q : enum.Answer} {m m′ : Memory} → budget < 2 ^ 32 → Called M s budget q m m′
+    → lines (told q) (nodesIn (told q) (m′ .output-tags) (m′ .output-arguments)) ≡ textOf M s budget (storesIn m)
 unfolding textOf
-called-text {s} {budget} {q} {m} {m′} few c =
-    ap (lines (told q)) (called-given few c .nodes-are) ∙ ap (λ a. lines a (written s budget (storesIn m))) (c .answer-is)
+called-text {M} {s} {budget} {q} {m} {m′} few c =
+    ap (lines (told q)) (called-given few c .nodes-are) ∙ ap (λ a. lines a (written M s budget (storesIn m))) (c .answer-is)

@@ -207,7 +207,7 @@ loop-again : tie.Need-loop-again Inv-loop μ-loop
 loop-again c =
     let d = ended c in
     let l = asked-before d in
-    let y = d .before .before .before .before .before .before .before .evaluate .last .1 .1 in (
+    let y = d .before .before .before .before .before .before .before .evaluate .last .1 .1 .1 in (
       back (tags-cut l) (y .0) (d .before .before .before .before .before .before .tags2 .given),
       back (args-cut l) (y .1 .0) (d .before .before .before .before .before .args3 .given),
       back (codes-cut l) (y .1 .1 .0) (d .before .before .before .before .codes2 .given),
