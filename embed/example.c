@@ -8,8 +8,8 @@ static uint16_t args[16384], codes[16384], owns[16384], nexts[16384], places[327
 int main(void) {
     const uint8_t file[] = {1, 0, 6, 0, 2, 1, 2, 0, 0, 0, 4, 0, 1, 0, 1, 0, 1, 0, 1, 0, 0, 0};
     uint64_t report[GLOW_REPORT_LEN] = {0};
-    uint32_t status = glow_evaluate(file, sizeof file, 1000000, tags, 16384, args, 16384, codes, 16384, owns, 16384,
-        nexts, 16384, places, 32768, renumber, 32768, out_tags, 16384, out_args, 16384, report, GLOW_REPORT_LEN);
+    uint32_t status = glow_evaluate(GLOW_FIRST, file, sizeof file, 1000000, tags, 16384, args, 16384, codes, 16384,
+        owns, 16384, nexts, 16384, places, 32768, renumber, 32768, out_tags, 16384, out_args, 16384, report, GLOW_REPORT_LEN);
     printf("status %u refusal %llu beta %llu term", status, (unsigned long long)report[GLOW_REFUSAL], (unsigned long long)report[GLOW_BETA]);
     for (uint64_t i = 0; status == GLOW_NORMAL && i < report[GLOW_WRITTEN]; i++)
         printf(" %c%u", "vla"[out_tags[i]], out_args[i]);

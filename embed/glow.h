@@ -1,4 +1,5 @@
-/* glow: open lambda terms evaluated by the Easy GLAMOUR machine. Link with libglow.a. */
+/* glow: open lambda terms evaluated by the Easy GLAMOUR machine, or by the Fast GLAMOUR machine, which copies functions on
+   demand. Link with libglow.a. */
 #ifndef GLOW_H
 #define GLOW_H
 
@@ -9,13 +10,26 @@
 extern "C" {
 #endif
 
+/* The machines. Where no store refuses, both give the same outcome, the same count of beta steps and the same term; the
+   other counts and what is taken of the stores are each machine's own.
+
+   The first machine copies a function wherever a name that stands for one is met, and each of its beta steps takes the same
+   short time. The machine on demand copies it only where it is applied, so that functions which are only passed along take
+   no further nodes and no further names; but a beta step whose argument is a name alone puts that name into the whole
+   body, which takes time with the body's length. Choose it where functions are mostly passed along, or nodes are few. */
+enum glow_machine {
+    GLOW_FIRST = 0,             /* Easy GLAMOUR */
+    GLOW_ON_DEMAND = 1          /* Fast GLAMOUR */
+};
+
 /* What glow_evaluate returns. */
 enum glow_status {
     GLOW_NORMAL = 0,            /* the term is in the output arrays */
     GLOW_SPENT = 1,             /* the beta steps made equal the budget, and another one is next */
     GLOW_REFUSED = 2,           /* refusal 8 to 12, its number in report[GLOW_REFUSAL] */
     GLOW_FILE_REFUSED = 3,      /* refusal 1 to 7; only report[GLOW_REFUSAL] is written, no array is changed */
-    GLOW_REPORT_TOO_SHORT = 4   /* report_len is below GLOW_REPORT_LEN; nothing is touched */
+    GLOW_REPORT_TOO_SHORT = 4,  /* report_len is below GLOW_REPORT_LEN; nothing is touched */
+    GLOW_NO_SUCH_MACHINE = 5    /* machine is no number of glow_machine, which is asked first of all; nothing is touched */
 };
 
 /* What glow_import and glow_export return. */
@@ -46,7 +60,9 @@ enum glow_refusal {
     GLOW_BITS_LIMITS = 16       /* glow_import alone: a node beyond GLOW_MOST_FILE_NODES, or a free name not below f */
 };
 
-/* Elements of the report. */
+/* Elements of the report. GLOW_SUBST_ALLOWANCE is (1 + b) V on the first machine and 1 + b on demand, and
+   GLOW_SHIFT_ALLOWANCE is (1 + b) 2 A on both: b the beta steps made, V the variables of the file and A its applications.
+   No run makes more substs, nor more enters and leaves together, than that. */
 enum glow_report {
     GLOW_REFUSAL = 0, GLOW_WRITTEN = 1, GLOW_BETA = 2, GLOW_SUBST = 3, GLOW_ENTER = 4,
     GLOW_LEAVE_FUN = 5, GLOW_LEAVE_INERT = 6, GLOW_NODES = 7, GLOW_CELLS = 8, GLOW_NAMES = 9,
@@ -78,6 +94,7 @@ enum glow_tag { GLOW_VARIABLE = 0, GLOW_ABSTRACTION = 1, GLOW_APPLICATION = 2 };
    another beta is next; so GLOW_SPENT means that the term has a further beta step. Every call ends, whatever the budget.
    No two arrays may overlap. Where a length is 0 the pointer may be anything, null too. */
 uint32_t glow_evaluate(
+    uint32_t machine,                                                           /* of glow_machine */
     const uint8_t *file, size_t file_len, uint32_t budget,
     uint8_t *tags, size_t tags_len, uint16_t *args, size_t args_len,            /* node store */
     uint16_t *codes, size_t codes_len, uint16_t *owns, size_t owns_len,

@@ -16,13 +16,17 @@ int main(void) {
             printf("%zu %zu %zu\n", lengths[i], lengths[k], GLOW_STACK_NEEDED(lengths[i], lengths[k]));
     printf("%zu %zu\n", GLOW_STACK_NEEDED(16384, 16384), GLOW_MOST_STACK_NEEDED);
 
-    printf("%u\n", glow_evaluate(NULL, 0, 5, NULL, 0, NULL, 0, NULL, 0, NULL, 0, NULL, 0, NULL, 0, NULL, 0, NULL, 0, NULL, 0, NULL, 0));
-    status = glow_evaluate(NULL, 0, 5, NULL, 0, NULL, 0, NULL, 0, NULL, 0, NULL, 0, NULL, 0, NULL, 0, NULL, 0, NULL, 0, report, GLOW_REPORT_LEN);
-    printf("%u %u\n", status, (unsigned)report[GLOW_REFUSAL]);
-    status = glow_evaluate(variable, sizeof variable, 5, NULL, 0, NULL, 0, NULL, 0, NULL, 0, NULL, 0, NULL, 0, NULL, 0, NULL, 0, NULL, 0, report, GLOW_REPORT_LEN);
-    printf("%u %u\n", status, (unsigned)report[GLOW_REFUSAL]);
-    status = glow_evaluate(variable, sizeof variable, 5, &tag, 1, &arg, 1, NULL, 0, NULL, 0, NULL, 0, &place, 1, &number, 1, &out_tag, 1, &out_arg, 1, report, GLOW_REPORT_LEN);
-    printf("%u %u\n", status, (unsigned)report[GLOW_WRITTEN]);
+    printf("%d %d %d\n", GLOW_FIRST, GLOW_ON_DEMAND, GLOW_NO_SUCH_MACHINE);
+    printf("%u\n", glow_evaluate(GLOW_ON_DEMAND + 1, NULL, 0, 5, NULL, 0, NULL, 0, NULL, 0, NULL, 0, NULL, 0, NULL, 0, NULL, 0, NULL, 0, NULL, 0, NULL, 0));
+    for (uint32_t machine = GLOW_FIRST; machine <= GLOW_ON_DEMAND; machine++) {
+        printf("%u\n", glow_evaluate(machine, NULL, 0, 5, NULL, 0, NULL, 0, NULL, 0, NULL, 0, NULL, 0, NULL, 0, NULL, 0, NULL, 0, NULL, 0, NULL, 0));
+        status = glow_evaluate(machine, NULL, 0, 5, NULL, 0, NULL, 0, NULL, 0, NULL, 0, NULL, 0, NULL, 0, NULL, 0, NULL, 0, NULL, 0, report, GLOW_REPORT_LEN);
+        printf("%u %u\n", status, (unsigned)report[GLOW_REFUSAL]);
+        status = glow_evaluate(machine, variable, sizeof variable, 5, NULL, 0, NULL, 0, NULL, 0, NULL, 0, NULL, 0, NULL, 0, NULL, 0, NULL, 0, NULL, 0, report, GLOW_REPORT_LEN);
+        printf("%u %u\n", status, (unsigned)report[GLOW_REFUSAL]);
+        status = glow_evaluate(machine, variable, sizeof variable, 5, &tag, 1, &arg, 1, NULL, 0, NULL, 0, NULL, 0, &place, 1, &number, 1, &out_tag, 1, &out_arg, 1, report, GLOW_REPORT_LEN);
+        printf("%u %u\n", status, (unsigned)report[GLOW_WRITTEN]);
+    }
 
     printf("%d %d %d %d %d\n", GLOW_EXCHANGE_REPORT_LEN, GLOW_STACK_FOR_AN_EXCHANGE, GLOW_MOST_IMPORTED, GLOW_MOST_EXPORTED, GLOW_MOST_FILE_NODES);
     printf("%d %d %d\n", GLOW_BITS_TOO_SHORT, GLOW_BITS_PADDING, GLOW_BITS_LIMITS);

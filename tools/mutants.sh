@@ -23,7 +23,7 @@ faults=0 by_assertion=0 by_crash=0 by_time=0 wrong=0
 
 # The file that faults are put in, and the tests that look at the answers: first the machine's.
 source=$machine
-tests=(--test cases --test budget --test demand3 --test families --test random)
+tests=(--test cases --test machines --test budget --test demand3 --test families --test random)
 
 # Builds the archive with each FROM, which must occur in the source, replaced by its TO. Says why not, if not.
 build() {
@@ -160,6 +160,60 @@ try "budget: read with 16 bits" "$asked" "if beta == budget as u16 as u64 { brea
 try "budget: read with 24 bits" "$asked" "if beta == (budget & 0xFF_FFFF) as u64 { break 'run 100; }"
 try "budget: read with a sign" "$asked" "if beta as i64 >= budget as i32 as i64 { break 'run 100; }"
 try "budget: betas counted with 8 bits" "$asked" "if beta as u8 as u64 == budget as u64 { break 'run 100; }"
+
+# the machine on demand: what is copied, what is renamed and where, what is counted, and the numbers of the machines
+all=("${tests[@]}")
+tests=(--test machines --test demand3 --test random)
+lookup="if t == 0 && (!ON_DEMAND || stack != 0) {"
+bare="if ON_DEMAND && s.owns[top] == 0 && s.tags[s.codes[top] as usize] == 0 {"
+renames="rename(s.tags, s.args, code + 1, z, y);"
+renamed="if args[k] == x { args[k] = y; }"
+inner="            1 => {}
+            _ => open += 1,"
+allowed="if ON_DEMAND { beta + 1 } else { (1 + beta) * vars }"
+try "demand: a copy with an empty stack, as on the first machine" "$lookup" "if t == 0 {"
+try "demand: a copy with an empty stack where the run would end" "$lookup" "if t == 0 && (!ON_DEMAND || stack != 0 || dump == 0) {"
+try "demand: a copy with an empty stack where the variable would leave" "$lookup" "if t == 0 && (!ON_DEMAND || stack != 0 || dump != 0) {"
+try "demand: no copy but where the run would end" "$lookup" "if t == 0 && (!ON_DEMAND || stack != 0 && dump == 0) {"
+try "demand: a bare variable given an entry" "$bare" "if ON_DEMAND && s.owns[top] == 0 && s.tags[s.codes[top] as usize] == 9 {"
+try "demand: only a variable without an entry renamed" "$bare" "if ON_DEMAND && s.owns[top] == 0 && s.tags[s.codes[top] as usize] == 0 && s.places[s.args[s.codes[top] as usize] as usize] == 0 {"
+try "demand: a variable with a stack of its own taken for a bare one" "$bare" "if ON_DEMAND && s.tags[s.codes[top] as usize] == 0 {"
+try "demand: an abstraction taken for a bare variable" "$bare" "if ON_DEMAND && s.owns[top] == 0 {" "${ends[@]}"
+try "demand: a beta renames only where its argument is the last" "$bare" "if ON_DEMAND && s.nexts[top] == 0 && s.owns[top] == 0 && s.tags[s.codes[top] as usize] == 0 {"
+try "demand: an application's size renamed" "$inner" "            1 => {}
+            _ => { open += 1; $renamed }"
+try "demand: renaming stops at the first inner abstraction" "$inner" "            1 => return,
+            _ => open += 1,"
+try "demand: renaming leaves out inner abstractions" "$inner" "            1 => { open -= 1; k = end_of(tags, k) - 1; }
+            _ => open += 1,"
+try "demand: renaming stops at the end of the left part" "$renames" "rename(s.tags, s.args, code + if s.tags[code + 1] == 2 { 2 } else { 1 }, z, y);"
+try "demand: renaming in the right part alone" "$renames" "rename(s.tags, s.args, code + if s.tags[code + 1] == 2 { 2 + s.args[code + 1] as usize } else { 1 }, z, y);"
+try "demand: the first occurrence renamed alone" "$renamed" "if args[k] == x { args[k] = y; return; }"
+try "demand: every name from the bound one on renamed" "$renamed" "if args[k] >= x { args[k] = y; }"
+try "demand: nothing renamed" "$renames" "let _ = y;"
+try "demand: names renamed with 8 bits compared" "$renamed" "if args[k] as u8 == x as u8 { args[k] = y; }"
+try "demand: a beta that renames not counted" "$renames" "$renames beta = beta.wrapping_sub(1);"
+try "demand: a beta that renames not asked of the budget" "$asked" "if beta == budget as u64 && !(ON_DEMAND && s.owns[stack as usize - 1] == 0 && s.tags[s.codes[stack as usize - 1] as usize] == 0) { break 'run 100; }"
+try "demand: a beta that renames counted as a subst too" "$renames" "$renames subst += 1;"
+try "demand: the cell given back at a renaming" "$renames" "$renames cells -= 1;" "${ends[@]}"
+try "demand: the name given back at a renaming" "$renames" "$renames names -= 1;" "${ends[@]}"
+try "demand: a leave of an unapplied function counted as leave-fun" "if t == 1 { fun += 1 } else { inert += 1 }" \
+    "let entry = s.places[s.args[s.codes[c] as usize] as usize] as usize;
+                    if t == 1 || s.owns[c] == 0 && entry != 0 && s.tags[s.codes[entry - 1] as usize] == 1 { fun += 1 } else { inert += 1 }"
+try "demand: the subst allowance of the first machine" "$allowed" "(1 + beta) * vars"
+try "demand: the subst allowance on both machines" "$allowed" "beta + 1"
+try "demand: a subst allowance of as many as betas" "$allowed" "if ON_DEMAND { beta } else { (1 + beta) * vars }"
+try "demand: an unknown machine taken for the first" "_ => 5," "_ => run::<false>(b, budget, s, report),"
+try "demand: an unknown machine taken for the one on demand" "_ => 5," "_ => run::<true>(b, budget, s, report),"
+try "demand: the machine's number read with 8 bits" "match machine {" "match machine as u8 {"
+try "demand: the machine's number read with 31 bits" "match machine {" "match machine & 0x7FFF_FFFF {"
+try "demand: the two machines the other way about" "0 => run::<false>" "0 => run::<true>" "1 => run::<true>" "1 => run::<false>"
+try "demand: the report's length asked for before the machine" "    match machine {" "    if report.len() < 12 { return 4; }
+    match machine {"
+try "demand: the file looked at before the machine" "    match machine {" "    if report.len() >= 12 && check(b) != 0 { return run::<false>(b, budget, s, report); }
+    match machine {"
+try "demand: an unknown machine told in the report" "_ => 5," "_ => { if let Some(first) = report.first_mut() { *first = 5; } 5 }"
+tests=("${all[@]}")
 
 try "10 before 9 at loading" "if n > cap { nodes = 0; names = 0; break 'run 9; }" "if names0 > names_cap { nodes = 0; names = 0; break 'run 10; } if n > cap { nodes = 0; names = 0; break 'run 9; }"
 try "10 before 9 at subst" "if nodes + size > cap { break 'run 9; }" "if names + binders > names_cap { break 'run 10; } if nodes + size > cap { break 'run 9; }"

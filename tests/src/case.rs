@@ -1,9 +1,10 @@
-//! One case: the second machine's answer, and the library's compared with it field by field and
-//! array by array, with sentinels before and after every lent slice.
-use crate::machine::{evaluate, Answer, Lengths};
+//! One case, on one of the two machines: the second implementation's answer, and the library's compared with it field by field
+//! and array by array, with sentinels before and after every lent slice.
+use crate::machine::{evaluate, Answer, Lengths, Rules};
 
 #[derive(Clone, Debug)]
 pub struct Case<'a> {
+    pub rules: Rules,
     pub file: &'a [u8],
     pub budget: u32,
     pub lengths: Lengths,
@@ -15,21 +16,21 @@ pub struct Case<'a> {
 }
 
 impl<'a> Case<'a> {
-    pub fn new(file: &'a [u8], budget: u32, lengths: Lengths) -> Case<'a> { Case { file, budget, lengths, garbage: 7, report_len: 12, nulls: false } }
-    pub fn glow(file: &'a [u8]) -> Case<'a> { Case { garbage: 0, ..Case::new(file, crate::machine::GLOW_BUDGET, Lengths::glow()) } }
+    pub fn new(rules: Rules, file: &'a [u8], budget: u32, lengths: Lengths) -> Case<'a> { Case { rules, file, budget, lengths, garbage: 7, report_len: 12, nulls: false } }
+    pub fn glow(rules: Rules, file: &'a [u8]) -> Case<'a> { Case { garbage: 0, ..Case::new(rules, file, crate::machine::GLOW_BUDGET, Lengths::glow()) } }
     pub fn garbage(mut self, g: u64) -> Self { self.garbage = g; self }
     pub fn nulls(mut self) -> Self { self.nulls = true; self }
-    /// The second machine's answer, after the library's has been compared with it. Panics on a difference.
+    /// The second implementation's answer, after the library's has been compared with it. Panics on a difference.
     pub fn check(&self) -> Answer {
-        let answer = evaluate(self.file, self.budget, &self.lengths);
+        let answer = evaluate(self.rules, self.file, self.budget, &self.lengths);
         self.check_against(&answer);
         answer
     }
     pub fn check_against(&self, answer: &Answer) {
         if let Err(why) = compare(self, answer) {
             let shown: Vec<String> = self.file.iter().take(400).map(|b| format!("{b:02x}")).collect();
-            panic!("DISAGREEMENT: {why}\n budget {} lengths {:?} garbage {} report_len {} nulls {}\n second implementation: {}\n file ({} bytes): {}",
-                self.budget, self.lengths, self.garbage, self.report_len, self.nulls, crate::machine::printed(answer), self.file.len(), shown.join(" "));
+            panic!("DISAGREEMENT: {why}\n machine {:?} budget {} lengths {:?} garbage {} report_len {} nulls {}\n second implementation: {}\n file ({} bytes): {}",
+                self.rules, self.budget, self.lengths, self.garbage, self.report_len, self.nulls, crate::machine::printed(answer), self.file.len(), shown.join(" "));
         }
     }
 }
@@ -55,7 +56,7 @@ pub use library::*;
 #[cfg(feature = "library")]
 mod library {
     use super::*;
-    use crate::machine::Outcome;
+    use crate::machine::{Outcome, GLOW_BUDGET};
     use crate::prng::Prng;
 
     const GUARD: usize = 8;
@@ -96,15 +97,19 @@ mod library {
         }
     }
 
-    /// The C function as a C program calls it that lends a null pointer for an array of length 0.
+    impl From<Rules> for glow::Machine {
+        fn from(rules: Rules) -> glow::Machine { match rules { Rules::First => glow::Machine::First, Rules::OnDemand => glow::Machine::OnDemand } }
+    }
+
+    /// The status of the C function, called with any number for a machine and a null pointer for an array of length 0, as C programs may.
     #[allow(clippy::too_many_arguments)]
     fn with_nulls(
-        file: &[u8], budget: u32, tags: &mut [u8], args: &mut [u16], codes: &mut [u16], owns: &mut [u16], nexts: &mut [u16], places: &mut [u16],
+        machine: u32, file: &[u8], budget: u32, tags: &mut [u8], args: &mut [u16], codes: &mut [u16], owns: &mut [u16], nexts: &mut [u16], places: &mut [u16],
         renumber: &mut [u16], out_tags: &mut [u8], out_args: &mut [u16], report: &mut [u64],
-    ) -> glow::Status {
+    ) -> u32 {
         extern "C" {
             fn glow_evaluate(
-                file: *const u8, file_len: usize, budget: u32, tags: *mut u8, tags_len: usize, args: *mut u16, args_len: usize,
+                machine: u32, file: *const u8, file_len: usize, budget: u32, tags: *mut u8, tags_len: usize, args: *mut u16, args_len: usize,
                 codes: *mut u16, codes_len: usize, owns: *mut u16, owns_len: usize, nexts: *mut u16, nexts_len: usize,
                 places: *mut u16, places_len: usize, renumber: *mut u16, renumber_len: usize,
                 out_tags: *mut u8, out_tags_len: usize, out_args: *mut u16, out_args_len: usize, report: *mut u64, report_len: usize,
@@ -112,16 +117,27 @@ mod library {
         }
         fn start<T>(s: &mut [T]) -> *mut T { if s.is_empty() { std::ptr::null_mut() } else { s.as_mut_ptr() } }
         // SAFETY: each pointer is to a slice that is borrowed alone, as long as is said, or is null with the length 0, which glow.h allows.
-        let number = unsafe {
+        unsafe {
             glow_evaluate(
-                if file.is_empty() { std::ptr::null() } else { file.as_ptr() }, file.len(), budget, start(tags), tags.len(), start(args), args.len(),
+                machine, if file.is_empty() { std::ptr::null() } else { file.as_ptr() }, file.len(), budget, start(tags), tags.len(), start(args), args.len(),
                 start(codes), codes.len(), start(owns), owns.len(), start(nexts), nexts.len(),
                 start(places), places.len(), start(renumber), renumber.len(),
                 start(out_tags), out_tags.len(), start(out_args), out_args.len(), start(report), report.len(),
             )
-        };
+        }
+    }
+
+    const NORMAL: u32 = 0;
+    const SPENT: u32 = 1;
+    const REFUSED: u32 = 2;
+    const FILE_REFUSED: u32 = 3;
+    const REPORT_TOO_SHORT: u32 = 4;
+    const NO_SUCH_MACHINE: u32 = 5;
+
+    /// The number of a status of the wrapper.
+    fn number(status: glow::Status) -> u32 {
         use glow::Status::*;
-        [Normal, Spent, Refused, FileRefused, ReportTooShort][number as usize]
+        match status { Normal => NORMAL, Spent => SPENT, Refused => REFUSED, FileRefused => FILE_REFUSED, ReportTooShort => REPORT_TOO_SHORT }
     }
 
     /// The wrapper's answer in the second implementation's own words; f is the file's count of free names.
@@ -143,84 +159,140 @@ mod library {
         }
     }
 
-    /// Calls of the wrapper's `evaluate` that need much stack, for `tests/threads.rs` to make on small ones: a long chain of
-    /// renamings, and the deepest terms for glow's stores and for the largest. Each answer is compared.
-    pub fn deep_calls() {
+    /// A call that needs much stack, and its answer.
+    struct DeepCall { rules: Rules, f: usize, file: Vec<u8>, lengths: Lengths, answer: Answer }
+
+    /// On each machine the deepest terms for glow's stores and for the largest, and on the first, where it is one of entries, a long chain
+    /// of renamings.
+    fn all_deep_calls() -> Vec<DeepCall> {
         use crate::families::{abstraction_chain, longest_copied_abstraction_chain, renamings};
-        use crate::flat::canonical;
-        use crate::machine::GLOW_BUDGET;
-        let (glow, largest) = (Lengths::glow(), Lengths::largest());
-        for (f, term, lengths, mut stores) in [
-            (1, renamings(5461), glow, glow::Stores::glow()),
-            (0, abstraction_chain(4095), glow, glow::Stores::glow()),
-            (0, longest_copied_abstraction_chain(32_768), largest, glow::Stores::largest()),
-            (0, abstraction_chain(1), Lengths::of(6, 1, 3, 3, 3), glow::Stores::new(6, 1, 3, 3, 3)),
-        ] {
-            let file = canonical(f, &term).file();
-            let answer = evaluate(&file, GLOW_BUDGET, &lengths);
-            assert!(matches!(answer.run().outcome, Outcome::Normal(_)));
-            assert_eq!(told(f, stores.evaluate(&file, GLOW_BUDGET)), answer);
+        use crate::machine::BOTH;
+        let terms = [
+            (&BOTH[..1], 1, renamings(5461), Lengths::glow()),
+            (&BOTH[..], 0, abstraction_chain(4095), Lengths::glow()),
+            (&BOTH[..], 0, longest_copied_abstraction_chain(32_768), Lengths::largest()),
+            (&BOTH[..], 0, abstraction_chain(1), Lengths::of(6, 1, 3, 3, 3)),
+        ];
+        let mut calls = Vec::new();
+        for (machines, f, term, lengths) in terms {
+            let file = crate::flat::canonical(f, &term).file();
+            for &rules in machines {
+                let answer = evaluate(rules, &file, GLOW_BUDGET, &lengths);
+                assert!(matches!(answer.run().outcome, Outcome::Normal(_)));
+                calls.push(DeepCall { rules, f, file: file.clone(), lengths, answer });
+            }
+        }
+        calls
+    }
+
+    /// Calls of the wrapper's `evaluate` that need much stack, for `tests/threads.rs` to make on small ones. Each answer is compared.
+    pub fn deep_calls() {
+        static CALLS: std::sync::OnceLock<Vec<DeepCall>> = std::sync::OnceLock::new();
+        for DeepCall { rules, f, file, lengths: l, answer } in CALLS.get_or_init(all_deep_calls) {
+            let machine = glow::Machine::from(*rules);
+            let mut stores = glow::Stores::new(l.tags, l.codes, l.places, l.renumber, l.out_tags);
+            assert_eq!(&told(*f, stores.evaluate(machine, file, GLOW_BUDGET)), answer);
             let s = &mut stores;
             let mut report = [0; 12];
-            let status = glow::evaluate_in(&file, GLOW_BUDGET, &mut s.tags, &mut s.args, &mut s.codes, &mut s.owns, &mut s.nexts, &mut s.places,
+            let status = glow::evaluate_in(machine, file, GLOW_BUDGET, &mut s.tags, &mut s.args, &mut s.codes, &mut s.owns, &mut s.nexts, &mut s.places,
                 &mut s.renumber, &mut s.out_tags, &mut s.out_args, &mut report);
-            assert_eq!((status, report[2]), (glow::Status::Normal, answer.run().counts.beta));
+            assert_eq!((status, report[2], report[3]), (glow::Status::Normal, answer.run().counts.beta, answer.run().counts.subst));
         }
     }
 
     fn note(what: String) { *NOTES.lock().unwrap().entry(what).or_default() += 1; }
 
-    pub(super) fn compare(case: &Case, answer: &Answer) -> Result<(), String> {
-        let mut r = Prng(case.garbage);
-        let (l, g) = (&case.lengths, case.garbage);
-        let mut tags: Lent<u8> = Lent::new("tags", l.tags, g, &mut r);
-        let mut args: Lent<u16> = Lent::new("args", l.args, g, &mut r);
-        let mut codes: Lent<u16> = Lent::new("codes", l.codes, g, &mut r);
-        let mut owns: Lent<u16> = Lent::new("owns", l.owns, g, &mut r);
-        let mut nexts: Lent<u16> = Lent::new("nexts", l.nexts, g, &mut r);
-        let mut places: Lent<u16> = Lent::new("places", l.places, g, &mut r);
-        let mut renumber: Lent<u16> = Lent::new("renumber", l.renumber, g, &mut r);
-        // the output is told from what is written by random contents, unless zeros are asked for
-        let mut out_tags: Lent<u8> = Lent::new("out_tags", l.out_tags, if g == 0 { 0 } else { 9 }, &mut r);
-        let mut out_args: Lent<u16> = Lent::new("out_args", l.out_args, if g == 0 { 0 } else { 9 }, &mut r);
-        let mut report: Lent<u64> = Lent::new("report", case.report_len, 9, &mut r);
-        let file = case.file.to_vec();
-        let call = if case.nulls { with_nulls } else { glow::evaluate_in_on_this_stack };
-        let status = call(
-            case.file, case.budget, tags.slice(), args.slice(), codes.slice(), owns.slice(), nexts.slice(), places.slice(),
-            renumber.slice(), out_tags.slice(), out_args.slice(), report.slice(),
-        );
-        if file != case.file { return Err("the file was changed".into()); }
-        tags.ends()?; args.ends()?; codes.ends()?; owns.ends()?; nexts.ends()?; places.ends()?;
-        renumber.ends()?; out_tags.ends()?; out_args.ends()?; report.ends()?;
-        let stores_from = |n: usize, c: usize, p: usize| -> Result<(), String> {
-            tags.unchanged_from(n)?; args.unchanged_from(n)?; codes.unchanged_from(c)?; owns.unchanged_from(c)?;
-            nexts.unchanged_from(c)?; places.unchanged_from(p)
+    /// All that a case lends.
+    struct Arrays {
+        tags: Lent<u8>, args: Lent<u16>, codes: Lent<u16>, owns: Lent<u16>, nexts: Lent<u16>, places: Lent<u16>,
+        renumber: Lent<u16>, out_tags: Lent<u8>, out_args: Lent<u16>, report: Lent<u64>,
+    }
+
+    impl Arrays {
+        fn of(case: &Case) -> Arrays {
+            let mut r = Prng(case.garbage);
+            let (l, g) = (&case.lengths, case.garbage);
+            // the output is told from what is written by random contents, unless zeros are asked for
+            let out = if g == 0 { 0 } else { 9 };
+            Arrays {
+                tags: Lent::new("tags", l.tags, g, &mut r), args: Lent::new("args", l.args, g, &mut r),
+                codes: Lent::new("codes", l.codes, g, &mut r), owns: Lent::new("owns", l.owns, g, &mut r), nexts: Lent::new("nexts", l.nexts, g, &mut r),
+                places: Lent::new("places", l.places, g, &mut r), renumber: Lent::new("renumber", l.renumber, g, &mut r),
+                out_tags: Lent::new("out_tags", l.out_tags, out, &mut r), out_args: Lent::new("out_args", l.out_args, out, &mut r),
+                report: Lent::new("report", case.report_len, 9, &mut r),
+            }
+        }
+
+        /// The status of a call, by the wrapper unless it could not make it. Neither the file nor anything outside of the arrays may change.
+        fn call(&mut self, case: &Case, machine: u32) -> Result<u32, String> {
+            let file = case.file.to_vec();
+            let (tags, args, codes, owns, nexts) = (self.tags.slice(), self.args.slice(), self.codes.slice(), self.owns.slice(), self.nexts.slice());
+            let (places, renumber, out_tags, out_args, report) = (self.places.slice(), self.renumber.slice(), self.out_tags.slice(), self.out_args.slice(), self.report.slice());
+            let status = if case.nulls || machine != case.rules.number() {
+                with_nulls(machine, case.file, case.budget, tags, args, codes, owns, nexts, places, renumber, out_tags, out_args, report)
+            } else {
+                number(glow::evaluate_in_on_this_stack(case.rules.into(), case.file, case.budget, tags, args, codes, owns, nexts, places, renumber, out_tags, out_args, report))
+            };
+            if file != case.file { return Err("the file was changed".into()); }
+            self.tags.ends()?; self.args.ends()?; self.codes.ends()?; self.owns.ends()?; self.nexts.ends()?; self.places.ends()?;
+            self.renumber.ends()?; self.out_tags.ends()?; self.out_args.ends()?; self.report.ends()?;
+            Ok(status)
+        }
+
+        /// That no node from `n` on is changed, no cell from `c` on and no name from `p` on.
+        fn stores_from(&self, n: usize, c: usize, p: usize) -> Result<(), String> {
+            self.tags.unchanged_from(n)?; self.args.unchanged_from(n)?;
+            self.codes.unchanged_from(c)?; self.owns.unchanged_from(c)?; self.nexts.unchanged_from(c)?;
+            self.places.unchanged_from(p)
+        }
+
+        /// That nothing is changed but the report.
+        fn all_but_report(&self) -> Result<(), String> {
+            self.stores_from(0, 0, 0)?; self.renumber.unchanged_from(0)?; self.out_tags.unchanged_from(0)?;
+            self.out_args.unchanged_from(0)
+        }
+    }
+
+    /// The case with a number that is no machine's: status 5, whatever the rest is, and nothing is changed.
+    pub fn check_no_such_machine(case: &Case, machine: u32) {
+        let mut lent = Arrays::of(case);
+        let untouched = |lent: &mut Arrays| -> Result<(), String> {
+            let status = lent.call(case, machine)?;
+            if status != NO_SUCH_MACHINE { return Err(format!("status {status}")); }
+            lent.all_but_report()?;
+            lent.report.unchanged_from(0)
         };
+        if let Err(why) = untouched(&mut lent) { panic!("DISAGREEMENT: machine {machine}: {why}\n{case:?}"); }
+    }
+
+    pub(super) fn compare(case: &Case, answer: &Answer) -> Result<(), String> {
+        let l = &case.lengths;
+        let mut lent = Arrays::of(case);
+        let status = lent.call(case, case.rules.number())?;
+        let Arrays { renumber, out_tags, out_args, report, .. } = &lent;
         if case.report_len < 12 {
-            if status != glow::Status::ReportTooShort { return Err(format!("status {status:?} with a short report")); }
-            stores_from(0, 0, 0)?; renumber.unchanged_from(0)?; out_tags.unchanged_from(0)?; out_args.unchanged_from(0)?;
+            if status != REPORT_TOO_SHORT { return Err(format!("status {status} with a short report")); }
+            lent.all_but_report()?;
             return report.unchanged_from(0);
         }
         let run = match answer {
             Answer::FileRefused(n) => {
-                if status != glow::Status::FileRefused { return Err(format!("status {status:?}, not the file's refusal")); }
+                if status != FILE_REFUSED { return Err(format!("status {status}, not the file's refusal")); }
                 if report.held()[0] != u64::from(*n) { return Err(format!("refusal {} not {n}", report.held()[0])); }
                 report.unchanged_from(1)?;
-                stores_from(0, 0, 0)?; renumber.unchanged_from(0)?; out_tags.unchanged_from(0)?;
-                return out_args.unchanged_from(0);
+                return lent.all_but_report();
             }
             Answer::Ran(run) => run,
         };
         let (want, refusal, written) = match &run.outcome {
-            Outcome::Normal(t) => (glow::Status::Normal, 0, t.tags.len()),
-            Outcome::Spent => (glow::Status::Spent, 0, 0),
-            Outcome::Refused(n) => (glow::Status::Refused, u64::from(*n), 0),
+            Outcome::Normal(t) => (NORMAL, 0, t.tags.len()),
+            Outcome::Spent => (SPENT, 0, 0),
+            Outcome::Refused(n) => (REFUSED, u64::from(*n), 0),
         };
         let (c, s) = (&run.counts, &run.figures);
         let expected = [refusal, written as u64, c.beta, c.subst, c.enter, c.leave_fun, c.leave_inert, s.nodes, s.cells, s.names, run.subst_allowance, run.shift_allowance];
         if status != want || report.held()[..12] != expected {
-            return Err(format!("library {status:?} {:?}, second implementation {want:?} {expected:?}", &report.held()[..12]));
+            return Err(format!("library {status} {:?}, second implementation {want} {expected:?}", &report.held()[..12]));
         }
         report.unchanged_from(12)?;
         if let Outcome::Normal(t) = &run.outcome {
@@ -238,10 +310,10 @@ mod library {
             }
         }
         // What a run leaves in the stores it used is free; past what a store counts nothing is used.
-        if stores_from(l.nodes() as usize, l.cells() as usize, l.names() as usize).is_err() { note("a store changed past the length that counts".into()); }
+        if lent.stores_from(l.nodes() as usize, l.cells() as usize, l.names() as usize).is_err() { note("a store changed past the length that counts".into()); }
         if s.nodes == 0 {
-            stores_from(0, 0, 0).map_err(|e| format!("a loading refusal: {e}"))?;
-        } else if stores_from(s.nodes as usize, s.cells as usize, s.names as usize).is_err() { note("a store changed past what the figures say was taken".into()); }
+            lent.stores_from(0, 0, 0).map_err(|e| format!("a loading refusal: {e}"))?;
+        } else if lent.stores_from(s.nodes as usize, s.cells as usize, s.names as usize).is_err() { note("a store changed past what the figures say was taken".into()); }
         if renumber.unchanged_from(s.names as usize).is_err() { note("renumber store changed past the names in use".into()); }
         Ok(())
     }

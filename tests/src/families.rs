@@ -1,4 +1,4 @@
-//! The families of source document 000, Church arithmetic, looping terms and extremes of shape.
+//! The families of source document 000, Church arithmetic, a library of functions, looping terms and extremes of shape.
 //! Free names: 0 is y, 1 is i (or z, the successor), 2 is another.
 use crate::flat::*;
 
@@ -72,6 +72,18 @@ pub fn renamings(n: usize) -> Flat {
     for k in 0..n { out.push(F::A); out.push(F::L(X + k as u32)); }
     out.push(F::V(if n == 0 { Y } else { X + n as u32 - 1 }));
     for k in (0..n).rev() { out.push(F::V(if k == 0 { Y } else { X + k as u32 - 1 })); }
+    out
+}
+
+/// A library whose functions are only passed along: n functions of 7 nodes, each bound to a name g by a let, to a second name h by
+/// another, and handed to the free name y under both; none is ever applied. (\g1. (\h1. .. y h1 g1 .. hn gn .. ) g1) F, 16 n + 1 nodes.
+/// That is all that is taken on demand; the first machine copies each function three times, in 21 nodes.
+pub fn passed_along(n: usize) -> Flat {
+    let (g, h) = (|k: usize| X + 1000 + 2 * k as u32, |k: usize| X + 1001 + 2 * k as u32);
+    let mut out = Vec::with_capacity(16 * n + 1);
+    for k in 0..n { out.extend([F::A, F::L(g(k)), F::A, F::L(h(k))]); }
+    out.extend(apply(v(Y), (0..n).flat_map(|k| [v(h(k)), v(g(k))])));
+    for k in (0..n).rev() { out.push(F::V(g(k))); out.extend(church(2)); }
     out
 }
 
@@ -196,6 +208,7 @@ pub fn small_members() -> Vec<(String, usize, Flat)> {
         out.push((format!("t_{n}"), 1, open_explosion(n)));
         out.push((format!("u_{n} of (4)"), 1, u4(n)));
         out.push((format!("renamings {n}"), 1, renamings(n)));
+        out.push((format!("{n} functions passed along"), 1, passed_along(n)));
         out.push((format!("abstraction chain {n}"), 0, abstraction_chain(n)));
         out.push((format!("inert chain right {n}"), 2, inert_chain_right(n)));
         out.push((format!("inert chain left {n}"), 2, inert_chain_left(n)));

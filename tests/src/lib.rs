@@ -12,6 +12,7 @@ pub mod file;
 pub mod flat;
 pub mod machine;
 pub mod markdown;
+pub mod marked;
 pub mod painted;
 pub mod prng;
 pub mod process;

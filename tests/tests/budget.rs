@@ -1,4 +1,4 @@
-//! What a budget means. Against the calculus alone, by its own steps: with ample stores a run is spent exactly when the calculus
+//! What a budget means, on both machines. Against the calculus alone, by its own steps: with ample stores a run is spent exactly when the calculus
 //! can make as many beta steps as the budget has, and the term after them is no fireball; else it ends at the fireball that is
 //! reached. And terms that never end: spent, or refused by the store that is full first.
 use glow_tests::calculus;
@@ -57,11 +57,13 @@ impl Compared {
         let terms = Terms::from(f, &file, most_steps, 2000);
         for budget in terms.budgets() {
             for lengths in [ample, Lengths { renumber: 0, ..ample }, Lengths { out_tags: 0, ..ample }] {
-                let answer = Case::new(&file, budget as u32, lengths).garbage(budget as u64).check();
-                let run = answer.run();
-                assert_eq!((run.outcome.clone(), run.counts.beta), terms.outcome(budget, &lengths), "budget {budget} of {}", canonical(f, t).text());
-                self.cases += 1;
-                if run.outcome == Outcome::Spent { self.spent += 1; }
+                for rules in BOTH {
+                    let answer = Case::new(rules, &file, budget as u32, lengths).garbage(budget as u64).check();
+                    let run = answer.run();
+                    assert_eq!((run.outcome.clone(), run.counts.beta), terms.outcome(budget, &lengths), "{rules:?}, budget {budget} of {}", canonical(f, t).text());
+                    self.cases += 1;
+                    if run.outcome == Outcome::Spent { self.spent += 1; }
+                }
             }
         }
     }
@@ -139,16 +141,16 @@ fn ending() -> Vec<(Lengths, u8)> {
 /// budget already, for the refusal comes before the next beta; with one less it is spent.
 #[test]
 fn terms_that_never_end() {
-    for (name, f, t) in endless() {
+    for ((name, f, t), rules) in endless().into_iter().flat_map(|term| BOTH.map(|rules| (term.clone(), rules))) {
         let file = canonical(f, &t).file();
         for (lengths, refusal) in ending() {
-            let at = |budget: u32| { let answer = Case::new(&file, budget, lengths).garbage(budget.into()).check(); (answer.run().outcome.clone(), answer.run().counts.beta) };
+            let at = |budget: u32| { let answer = Case::new(rules, &file, budget, lengths).garbage(budget.into()).check(); (answer.run().outcome.clone(), answer.run().counts.beta) };
             let (outcome, betas) = at(u32::MAX);
-            assert_eq!(outcome, Outcome::Refused(refusal), "{name} {lengths:?}");
-            assert!(betas > 2, "{name} {lengths:?}: {betas} betas");
+            assert_eq!(outcome, Outcome::Refused(refusal), "{name} {rules:?} {lengths:?}");
+            assert!(betas > 2, "{name} {rules:?} {lengths:?}: {betas} betas");
             for budget in [0, 1, 2, 1000, betas as u32 - 1, betas as u32, betas as u32 + 1, GLOW_BUDGET, 1 << 31] {
                 let want = if u64::from(budget) < betas { (Outcome::Spent, u64::from(budget)) } else { (outcome.clone(), betas) };
-                assert_eq!(at(budget), want, "{name}, budget {budget} {lengths:?}");
+                assert_eq!(at(budget), want, "{name} {rules:?}, budget {budget} {lengths:?}");
             }
         }
     }

@@ -1,27 +1,21 @@
-//! Every worked case of 01 and 02, the table's examples, the order of the tests, and the traps' cases.
+//! Every worked case of 01 and 02, the table's examples, the order of the tests, and the traps' cases: the numbers are the first
+//! machine's, and each case is compared on both. `machines` has the numbers on demand.
 use glow_tests::file::REFUSED_FILES;
 use glow_tests::case::{print_notes, Case};
 use glow_tests::file::check;
 use glow_tests::flat::from_text;
 use glow_tests::machine::*;
+use glow_tests::marked::*;
 
 fn counts(beta: u64, subst: u64, enter: u64, leave_fun: u64, leave_inert: u64) -> Counts { Counts { beta, subst, enter, leave_fun, leave_inert } }
 fn figures(nodes: u64, cells: u64, names: u64) -> Figures { Figures { nodes, cells, names } }
 
-const C: &str = "a2 l1 v1 v0";
-const D: &str = "a2 l0 v0 l1 v1";
-const FF: &str = "a6 l1 a1 v1 a1 v0 v1 l2 v2";
-const J: &str = "a4 l0 a1 v0 v0 l1 a1 v1 v1";
-
-fn glow(f: usize, text: &str) -> Answer {
-    let file = from_text(f, text).file();
-    for g in [0, 1, 2, 99] { Case::glow(&file).garbage(g).check(); }
-    Case::glow(&file).check()
-}
+fn glow(f: usize, text: &str) -> Answer { with(f, text, GLOW_BUDGET, Lengths::glow()) }
+/// The first machine's answer, both machines having been compared.
 fn with(f: usize, text: &str, budget: u32, lengths: Lengths) -> Answer {
     let file = from_text(f, text).file();
-    for g in [0, 1, 2, 99] { Case::new(&file, budget, lengths).garbage(g).check(); }
-    Case::new(&file, budget, lengths).check()
+    for rules in BOTH { for g in [0, 1, 2, 99] { Case::new(rules, &file, budget, lengths).garbage(g).check(); } }
+    Case::new(Rules::First, &file, budget, lengths).check()
 }
 fn normal(f: usize, text: &str) -> Outcome { Outcome::Normal(from_text(f, text)) }
 
@@ -54,9 +48,11 @@ fn a_to_j() {
 #[test]
 fn table_examples() {
     for (file, n) in REFUSED_FILES.into_iter().zip(1..) {
-        assert_eq!(Case::glow(file).check(), Answer::FileRefused(n));
-        for report_len in 0..15 { Case { report_len, ..Case::new(file, 5, Lengths::glow()) }.check(); }
-        Case::new(file, 0, Lengths::of(0, 0, 0, 0, 0)).check();
+        for rules in BOTH {
+            assert_eq!(Case::glow(rules, file).check(), Answer::FileRefused(n));
+            for report_len in 0..15 { Case { report_len, ..Case::new(rules, file, 5, Lengths::glow()) }.check(); }
+            Case::new(rules, file, 0, Lengths::of(0, 0, 0, 0, 0)).check();
+        }
     }
     let refused = |a: Answer, n: u8| assert_eq!(a.run().outcome, Outcome::Refused(n), "refusal {n}");
     refused(with(1, C, GLOW_BUDGET, Lengths { codes: 0, ..Lengths::glow() }), 8);
@@ -142,7 +138,7 @@ fn budgets_of_thirty_two_bits() {
 /// Files that several refusals fit: the first counts.
 #[test]
 fn order_of_the_file_refusals() {
-    let of = |b: &[u8]| { Case::glow(b).check(); check(b).err() };
+    let of = |b: &[u8]| { for rules in BOTH { Case::glow(rules, b).check(); } check(b).err() };
     assert_eq!(of(&[]), Some(1));
     assert_eq!(of(&[1, 0xff, 0, 0]), Some(2)); // both limits
     assert_eq!(of(&[0x01, 0x40, 1, 0, 9]), Some(2)); // f = 16385 before the length
@@ -175,7 +171,7 @@ fn lengths_beyond_sixteen_bits() {
         for extra in [1, 3, 65_535, 65_536, 65_537, 131_072, 3 * 65_536, 1 << 24] {
             let mut long = sound.clone();
             long.resize(sound.len() + extra, 0);
-            assert_eq!(Case::new(&long, 9, Lengths::of(50, 50, 50, 50, 50)).check(), Answer::FileRefused(3));
+            for rules in BOTH { assert_eq!(Case::new(rules, &long, 9, Lengths::of(50, 50, 50, 50, 50)).check(), Answer::FileRefused(3)); }
         }
         let want = with(f, text, 50, Lengths::glow());
         for k in [32_767, 32_768, 32_769, 65_535, 65_536, 65_537, 65_538, 98_304, 131_072, 131_073] {
@@ -186,7 +182,7 @@ fn lengths_beyond_sixteen_bits() {
                 assert_eq!(with(f, text, 50, lengths), want);
             }
         }
-        for report_len in [0, 1, 11, 12, 13, 65_536, 65_540] { Case { report_len, ..Case::new(&sound, 50, Lengths::glow()) }.check(); }
+        for rules in BOTH { for report_len in [0, 1, 11, 12, 13, 65_536, 65_540] { Case { report_len, ..Case::new(rules, &sound, 50, Lengths::glow()) }.check(); } }
     }
 }
 
@@ -198,28 +194,31 @@ fn null_and_length_0() {
         |_| {}, |l| l.tags = 0, |l| l.args = 0, |l| l.codes = 0, |l| l.owns = 0, |l| l.nexts = 0, |l| l.places = 0, |l| l.renumber = 0, |l| l.out_tags = 0, |l| l.out_args = 0,
         |l| (l.tags, l.args) = (0, 0), |l| (l.codes, l.owns, l.nexts) = (0, 0, 0), |l| (l.out_tags, l.out_args) = (0, 0), |l| (l.places, l.renumber) = (0, 0), |l| *l = Lengths::of(0, 0, 0, 0, 0),
     ];
-    let mut seen = [0u64; 15];
-    for (f, text) in [(1, "v0"), (0, "l0 v0"), (1, C), (0, D), (1, "a1 v0 v0"), (1, FF), (0, J)] {
-        let sound = from_text(f, text).file();
-        for file in [&sound[..], &sound[..3], &[]] {
-            for empty in empty {
-                for lengths in [Lengths::glow(), Lengths::of(13, 3, 5, 5, 4)] {
-                    let mut lengths = lengths;
-                    empty(&mut lengths);
-                    for budget in [0, 1, 2, 3, 1000] {
-                        for garbage in [0, 1, 99] { seen[Case::new(file, budget, lengths).garbage(garbage).nulls().check().kind()] += 1; }
-                        for report_len in [0, 11] { Case { report_len, ..Case::new(file, budget, lengths) }.nulls().check(); }
+    for rules in BOTH {
+        let mut seen = [0u64; 15];
+        for (f, text) in [(1, "v0"), (0, "l0 v0"), (1, C), (0, D), (1, "a1 v0 v0"), (1, FF), (0, J)] {
+            let sound = from_text(f, text).file();
+            for file in [&sound[..], &sound[..3], &[]] {
+                for empty in empty {
+                    for lengths in [Lengths::glow(), Lengths::of(13, 3, 5, 5, 4)] {
+                        let mut lengths = lengths;
+                        empty(&mut lengths);
+                        for budget in [0, 1, 2, 3, 1000] {
+                            for garbage in [0, 1, 99] { seen[Case::new(rules, file, budget, lengths).garbage(garbage).nulls().check().kind()] += 1; }
+                            for report_len in [0, 11] { Case { report_len, ..Case::new(rules, file, budget, lengths) }.nulls().check(); }
+                        }
                     }
                 }
             }
         }
+        // normal, spent, no file, and each store that may be empty
+        for kind in [0, 1, 8, 9, 10, 11, 12, 14] { assert!(seen[kind] > 0, "{rules:?}, outcome {kind}"); }
     }
-    // normal, spent, no file, and each store that may be empty
-    for kind in [0, 1, 8, 9, 10, 11, 12, 14] { assert!(seen[kind] > 0, "outcome {kind}"); }
     print_notes();
 }
 
-/// Each case after each other one, with the stores as that one left them: entries that are there and mean nothing any more.
+/// Each case after each other one, on the same machine and on the other, with the stores as that one left them: entries that are there
+/// and mean nothing any more.
 #[cfg(feature = "library")]
 #[test]
 fn stores_as_the_last_call_left_them() {
@@ -228,9 +227,12 @@ fn stores_as_the_last_call_left_them() {
     let mut stores = glow::Stores::new(200, 100, 100, 100, 100);
     for first in texts {
         for (f, text) in texts {
-            stores.evaluate_on_this_stack(&from_text(first.0, first.1).file(), 10);
-            let file = from_text(f, text).file();
-            assert_eq!(glow_tests::case::told(f, stores.evaluate_on_this_stack(&file, 10)), evaluate(&file, 10, &lengths), "{text} after {}", first.1);
+            for (before, rules) in [(BOTH[0], BOTH[0]), (BOTH[0], BOTH[1]), (BOTH[1], BOTH[0]), (BOTH[1], BOTH[1])] {
+                stores.evaluate_on_this_stack(before.into(), &from_text(first.0, first.1).file(), 10);
+                let file = from_text(f, text).file();
+                let answer = glow_tests::case::told(f, stores.evaluate_on_this_stack(rules.into(), &file, 10));
+                assert_eq!(answer, evaluate(rules, &file, 10, &lengths), "{text}, {rules:?}, after {}, {before:?}", first.1);
+            }
         }
     }
 }

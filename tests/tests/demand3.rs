@@ -1,12 +1,11 @@
-//! Demand 3 watched from outside: for small terms every budget from 0 to the betas needed and one
-//! more, and stores that end the run before each enter and each subst. Counts and figures against the
-//! second machine's; its state, decoded, against the calculus's term after as many steps as there were
-//! betas; both bounds at each.
+//! Demand 3 watched from outside, on both machines: for small terms every budget from 0 to the betas needed and one more, and
+//! stores that end the run before each enter and each subst. Counts and figures against the second implementation's; its
+//! state, decoded, against the calculus's term after as many steps as there were betas; and at each state where the nodes are.
 use glow_tests::calculus;
 use glow_tests::case::{print_notes, Case};
 use glow_tests::enumerate::All;
 use glow_tests::families::small_members;
-use glow_tests::file::{check, MOST};
+use glow_tests::file::check;
 use glow_tests::flat::{canonical, from_text, Flat};
 use glow_tests::machine::*;
 use glow_tests::painted::with_large_stack;
@@ -40,8 +39,35 @@ impl Prefix {
     }
 }
 
-/// Gives how many states were compared.
-fn watch(f: usize, t: &Flat, budget: u32, most_nodes: u64, with_steps: bool) -> u64 {
+/// The nodes of a run, followed from state to state.
+#[derive(Default)]
+struct Nodes { held: Vec<bool> }
+
+impl Nodes {
+    /// Each node taken is part of exactly one code that the state holds, or has been used up once for all: an enter, a beta and a subst use
+    /// up one each, and on demand a beta that makes no entry drops its variable too. There no entry has a single node, as a bare variable
+    /// would have; an abstraction has at least two.
+    fn follow(&mut self, rules: Rules, m: &Machine) {
+        let entries = m.entries();
+        let mut held = vec![false; m.figures.nodes as usize];
+        for &node in m.code_and_dump().iter().chain(&entries).flatten() {
+            assert!(!std::mem::replace(&mut held[node as usize], true), "a node is held twice");
+        }
+        assert!(self.held.iter().zip(&held).all(|(before, now)| *before || !now), "a node that was used up is held");
+        let dropped = match rules { Rules::First => 0, Rules::OnDemand => m.counts.beta - entries.len() as u64 };
+        let used = m.counts.enter + m.counts.beta + m.counts.subst + dropped;
+        assert_eq!(held.iter().filter(|held| !**held).count() as u64, used, "the nodes that no code has, and those used up");
+        assert!(rules == Rules::First || entries.iter().all(|nodes| nodes.len() > 1), "an entry of a single node");
+        self.held = held;
+    }
+}
+
+/// Gives how many states were compared, on both machines.
+fn watch_both(f: usize, t: &Flat, budget: u32, most_nodes: u64, with_steps: bool) -> u64 {
+    BOTH.iter().map(|&rules| watch(rules, f, t, budget, most_nodes, with_steps)).sum()
+}
+
+fn watch(rules: Rules, f: usize, t: &Flat, budget: u32, most_nodes: u64, with_steps: bool) -> u64 {
     let file = canonical(f, t).file();
     let parsed = check(&file).unwrap();
     let lengths = Lengths::of(2000, 600, 1000, 1000, 600);
@@ -49,13 +75,9 @@ fn watch(f: usize, t: &Flat, budget: u32, most_nodes: u64, with_steps: bool) -> 
     let mut shown = calculus::to_canonical(f, &term);
     let (mut beta, mut too_large, mut states) = (0u64, false, 0u64);
     let mut prefixes: Vec<Prefix> = Vec::new();
-    let answer = evaluate_watched(&file, budget, &lengths, |m| {
-        let (subst_allowance, shift_allowance) = m.allowances();
-        assert!(m.counts.subst <= subst_allowance, "the bound of subst");
-        assert!(m.counts.shift() <= shift_allowance, "the bound of shift");
-        assert!(m.counts.leave_fun + m.counts.leave_inert <= m.counts.enter);
-        assert_eq!(m.figures.cells, m.counts.enter);
-        assert_eq!(m.held() + m.counts.enter + m.counts.beta + m.counts.subst, m.figures.nodes, "each node taken is held once or was used up once");
+    let mut nodes = Nodes::default();
+    let answer = evaluate_watched(rules, &file, budget, &lengths, |m| {
+        nodes.follow(rules, m);
         prefixes.push(Prefix::of(m));
         if too_large { return; }
         while beta < m.counts.beta {
@@ -73,15 +95,13 @@ fn watch(f: usize, t: &Flat, budget: u32, most_nodes: u64, with_steps: bool) -> 
     for (k, prefix) in prefixes.iter().enumerate() {
         for (lengths, outcome) in prefix.ends(lengths) {
             let want = Answer::Ran(Run { outcome, ..prefix.run.clone() });
-            Case::new(&file, prefix.run.counts.beta as u32, lengths).garbage(k as u64).check_against(&want);
+            Case::new(rules, &file, prefix.run.counts.beta as u32, lengths).garbage(k as u64).check_against(&want);
         }
     }
     if answer.run().outcome != Outcome::Spent {
         let betas = answer.run().counts.beta as u32;
-        for budget in [betas, betas + 1] { Case::new(&file, budget, lengths).check_against(&answer); }
+        for budget in [betas, betas + 1] { Case::new(rules, &file, budget, lengths).check_against(&answer); }
     }
-    // the sizes are within limits of both
-    assert!(parsed.tags.len() <= MOST);
     states
 }
 
@@ -92,7 +112,7 @@ fn all_small_terms() {
         let (mut terms, mut states) = (0u64, 0u64);
         for (f, most) in [(0, 10), (1, 8), (2, 8)] {
             for n in 1..=most {
-                for t in all.terms(f, n).iter() { terms += 1; states += watch(f, t, 12, 2000, true); }
+                for t in all.terms(f, n).iter() { terms += 1; states += watch_both(f, t, 12, 2000, true); }
             }
         }
         println!("{terms} small terms, {states} states decoded and compared with the calculus, the library ended before every beta, enter and subst");
@@ -104,7 +124,7 @@ fn all_small_terms() {
 fn families() {
     with_large_stack(|| {
         let mut states = 0;
-        for (_, f, t) in small_members() { states += watch(f, &t, 120, 3000, true); }
+        for (_, f, t) in small_members() { states += watch_both(f, &t, 120, 3000, true); }
         println!("families: {states} states");
         print_notes();
     });
@@ -119,7 +139,7 @@ fn random_terms() {
             let (f, t) = random::term(&mut r);
             if t.len() > 80 || f > 500 { continue; }
             terms += 1;
-            states += watch(f, &t, 25, 1500, false);
+            states += watch_both(f, &t, 25, 1500, false);
         }
         println!("{terms} random terms, {states} states");
         print_notes();
@@ -128,12 +148,13 @@ fn random_terms() {
 
 /// `consults_chain` can see something. One rule is weakened: a variable with an abstraction as entry leaves like an inert one, and is
 /// not copied, where the stack is empty. Then (\x. (\y. y z) x) (\w. w) comes to y, whose entry holds x, whose entry holds \w. w,
-/// and stops there, at a term that is no fireball. By the five rules it ends at z, and no state of its run consults a chain.
+/// and stops there, at a term that is no fireball. By the five rules it ends at z, and no state of its run consults a chain. On demand
+/// the rule is weak in the same way, and that is why a beta with a bare variable makes no entry: it comes to x, not to y, and ends at z.
 #[test]
 fn a_weakened_rule_meets_a_chain() {
     use Step::*;
     let file = from_text(1, "a7 l1 a4 l2 a1 v2 v0 v1 l3 v3").file();
-    let mut m = Machine::start(&check(&file).unwrap());
+    let mut m = Machine::start(Rules::First, &check(&file).unwrap());
     for (fits, made) in [(Enter, Enter), (LeaveFun, LeaveFun), (Beta, Beta), (Enter, Enter), (Subst, LeaveInert), (Beta, Beta), (Enter, Enter), (LeaveInert, LeaveInert)] {
         assert!(m.fits() == Some(fits) && !m.consults_chain());
         m.make_step(made);
@@ -142,7 +163,9 @@ fn a_weakened_rule_meets_a_chain() {
     assert!(m.fits().is_none() && m.consults_chain());
     assert_eq!(m.stands_for(), from_text(1, "a2 l1 v1 v0"));
 
-    let right = evaluate_watched(&file, GLOW_BUDGET, &Lengths::glow(), |m| assert!(!m.consults_chain()));
-    assert_eq!((&right.run().outcome, right.run().counts.beta), (&Outcome::Normal(from_text(1, "v0")), 3));
-    Case::glow(&file).check_against(&right);
+    for (rules, substs) in [(Rules::First, 2), (Rules::OnDemand, 1)] {
+        let right = evaluate_watched(rules, &file, GLOW_BUDGET, &Lengths::glow(), |m| assert!(!m.consults_chain()));
+        assert_eq!((&right.run().outcome, right.run().counts.beta, right.run().counts.subst), (&Outcome::Normal(from_text(1, "v0")), 3, substs));
+        Case::glow(rules, &file).check_against(&right);
+    }
 }

@@ -1,4 +1,4 @@
-//! The extremes of size and nesting, on a painted stack of 8 MiB: the right answer, and no more stack than is told.
+//! The extremes of size and nesting, on both machines and a painted stack of 8 MiB: the right answer, and no more stack than is told.
 use glow_tests::case::{Case, LIBRARY};
 use glow_tests::families::*;
 use glow_tests::flat::*;
@@ -62,7 +62,47 @@ fn shapes() -> Vec<(String, usize, Flat)> {
     add("a deep abstraction copied", 1, a(l(9_500_000, apply(v(Y), [v(9_500_000), v(9_500_000)])), nested_abstractions(5000)));
     add("a deep left spine copied", 1, a(l(9_500_000, apply(v(Y), [v(9_500_000), v(9_500_000)])), l(9_000_000, left_nested(2500, 9_000_000))));
     add("a deep right spine copied", 1, a(l(9_500_000, apply(v(Y), [v(9_500_000), v(9_500_000)])), l(9_000_000, right_nested(2500, 9_000_000))));
+    renamed_bodies(&mut add);
     out
+}
+
+/// Bodies that a beta renames on demand: the largest of each shape, with the name everywhere or at one end, behind inner abstractions, and
+/// beside applications whose left part has as many nodes as the name's number says.
+fn renamed_bodies(add: &mut impl FnMut(&str, usize, Flat)) {
+    let x = 9_700_000;
+    let renaming = |body: Flat| a(l(x, body), v(Y));
+    add("renamed everywhere, nested on the left", 1, renaming(left_nested(8190, x)));
+    add("renamed everywhere, nested on the right", 1, renaming(right_nested(8190, x)));
+    add("renamed nowhere, nested on the right", 1, renaming(right_nested(8190, Y)));
+    add("renamed below 16380 abstractions", 1, renaming({ let mut t: Flat = (0..16_380).map(|k| F::L(x + 1 + k)).collect(); t.push(F::V(x)); t }));
+    add("renamed at the far right of 8190 applications", 1, renaming({ let mut t = right_nested(8190, Y); *t.last_mut().unwrap() = F::V(x); t }));
+    add("renamed at the far left of 8190 applications", 1, renaming({ let mut t = left_nested(8190, Y); t[8190] = F::V(x); t }));
+    add("renamed behind 4095 abstractions beside it", 1, renaming({ let mut t = vec![]; for _ in 0..4095 { t.push(F::A); t.extend(l(x + 1, v(x + 1))); } t.push(F::V(x)); t }));
+    add("renamed in both parts below abstractions, 3275 times", 1, renaming({ let mut t = vec![]; for _ in 0..3275 { t.extend([F::A, F::L(x + 1), F::A, F::V(x), F::V(x + 1)]); } t.push(F::V(x)); t }));
+    // the bound name is f, and there is a left part of every odd size, which stays as it is
+    for f in [1, 3, 301, 8191, 16_379] { add(&format!("renamed among applications, {f} the name and one's size"), f, a(l(x, left_nested(8190, x)), v(f as u32 - 1))); }
+    add("renamed among applications, 1 the name and each one's size, below abstractions", 1, renaming({ let mut t = vec![]; for k in 0..5460 { t.extend([F::A, F::V(x), F::L(x + 1 + k)]); } t.push(F::V(x)); t }));
+    // a renaming to a name that has an inert entry, and an entry, by turns: (\\a. (\\b. (\\a. (\\b. ..) (y a)) b) (y a)) y
+    add("2047 renamings and 2047 entries by turns", 1, {
+        let (first, second) = (|k: u32| x + 2 * k, |k: u32| x + 2 * k + 1);
+        let mut t = vec![];
+        for k in 0..2047 { t.extend([F::A, F::L(first(k)), F::A, F::L(second(k))]); }
+        t.push(F::V(second(2046)));
+        for k in (0..2047).rev() { t.extend([F::A, F::V(Y), F::V(first(k)), F::V(if k == 0 { Y } else { second(k - 1) })]); }
+        t
+    });
+    // a name that has an abstraction as entry put for the bound name of each copy of that abstraction, until the nodes are full
+    add("a long body renamed in each of its copies", 0, { let d = l(x, a(a(v(x), v(x)), left_nested(500, x))); a(d.clone(), d) });
+    for depth in [10, 5000] {
+        add(&format!("1000 names for a function that is applied at last, {depth} abstractions"), 1, {
+            let mut t: Flat = (0..1000).flat_map(|k| [F::A, F::L(x + k)]).collect();
+            t.extend([F::A, F::V(x + 999), F::V(Y)]);
+            t.extend((0..999).rev().map(|k| F::V(x + k)));
+            t.extend(nested_abstractions(depth));
+            t
+        });
+    }
+    add("1023 functions passed along", 1, passed_along(1023));
 }
 
 #[test]
@@ -71,21 +111,21 @@ fn on_eight_mebibytes() {
     let mut deepest = (0, String::new());
     for (name, f, t) in shapes() {
         let file = canonical(f, &t).file();
-        for (which, lengths) in [("glow's stores", Lengths::glow()), ("largest stores", Lengths::largest())] {
-            let answer = evaluate(&file, GLOW_BUDGET, &lengths);
+        for (which, lengths, rules) in [("glow's stores", Lengths::glow()), ("largest stores", Lengths::largest())].into_iter().flat_map(|(which, lengths)| BOTH.map(|rules| (which, lengths, rules))) {
+            let answer = evaluate(rules, &file, GLOW_BUDGET, &lengths);
             let start = std::time::Instant::now();
-            let used = library_use(&file, &lengths);
+            let used = library_use(rules, &file, &lengths);
             let took = start.elapsed().as_secs_f64();
             if took > 0.1 { println!("the next one took the library {took:.2} s"); }
-            on_stack(8 << 20, || Case::new(&file, GLOW_BUDGET, lengths).garbage(11).check_against(&answer));
+            on_stack(8 << 20, || Case::new(rules, &file, GLOW_BUDGET, lengths).garbage(11).check_against(&answer));
             let run = answer.run();
             let entry = match &run.outcome { Outcome::Normal(t) => format!("normal, {} nodes", t.tags.len()), other => format!("{other:?}") };
-            println!("{name}, {which}: {entry}; steps {} store {} {} {}; stack {}", run.counts.steps(), run.figures.nodes, run.figures.cells, run.figures.names,
+            println!("{name}, {which}, {rules:?}: {entry}; steps {} store {} {} {}; stack {}", run.counts.steps(), run.figures.nodes, run.figures.cells, run.figures.names,
                 used.map_or("-".into(), |u| format!("{} bytes", u.saturating_sub(none))));
             if let Some(u) = used {
                 let told = told(&lengths);
                 assert!(u - none <= told, "{} bytes of stack, and {told} are told", u - none);
-                if u > deepest.0 { deepest = (u, format!("{name}, {which}")); }
+                if u > deepest.0 { deepest = (u, format!("{name}, {which}, {rules:?}")); }
             }
         }
     }
@@ -93,11 +133,11 @@ fn on_eight_mebibytes() {
 }
 
 #[cfg(feature = "library")]
-fn library_use(file: &[u8], l: &Lengths) -> Option<usize> {
+fn library_use(rules: Rules, file: &[u8], l: &Lengths) -> Option<usize> {
     let mut stores = glow::Stores::new(l.tags, l.codes, l.places, l.renumber, l.out_tags);
     let mut report = [0u64; 12];
     Some(on_stack(8 << 20, || {
-        glow::evaluate_in_on_this_stack(file, GLOW_BUDGET, &mut stores.tags, &mut stores.args, &mut stores.codes, &mut stores.owns, &mut stores.nexts,
+        glow::evaluate_in_on_this_stack(rules.into(), file, GLOW_BUDGET, &mut stores.tags, &mut stores.args, &mut stores.codes, &mut stores.owns, &mut stores.nexts,
             &mut stores.places, &mut stores.renumber, &mut stores.out_tags, &mut stores.out_args, &mut report);
     }))
 }
@@ -107,4 +147,4 @@ fn told(l: &Lengths) -> usize { glow::stack_needed(l.nodes() as usize, l.cells()
 #[cfg(not(feature = "library"))]
 fn told(_: &Lengths) -> usize { 0 }
 #[cfg(not(feature = "library"))]
-fn library_use(_: &[u8], _: &Lengths) -> Option<usize> { None }
+fn library_use(_: Rules, _: &[u8], _: &Lengths) -> Option<usize> { None }

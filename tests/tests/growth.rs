@@ -3,7 +3,7 @@
 use glow_tests::case::Case;
 use glow_tests::families::{open_explosion, small_members};
 use glow_tests::flat::{canonical, Flat, F};
-use glow_tests::machine::{evaluate, Lengths, Outcome, Run, GLOW_BUDGET};
+use glow_tests::machine::{evaluate, Lengths, Outcome, Rules, Run, GLOW_BUDGET};
 use glow_tests::prng::Prng;
 use glow_tests::process::root;
 use glow_tests::random;
@@ -27,7 +27,7 @@ fn flat(term: Vec<Node>) -> Flat {
 /// Whether both ways end at a normal form; if so it is the same one, after as many betas.
 fn agree(free: usize, term: &Flat) -> bool {
     let file = canonical(free, term).file();
-    let run = evaluate(&file, 3000, &Lengths::largest()).run().clone();
+    let run = evaluate(Rules::First, &file, 3000, &Lengths::largest()).run().clone();
     let (end, machine) = old_way(&file, MEMORY);
     let (Outcome::Normal(normal), End::Normal) = (run.outcome, end) else { return false };
     let term = machine.term(normal.tags.len()).expect("no more nodes than the normal form has");
@@ -110,7 +110,7 @@ fn rows(text: &str) -> Vec<Row> {
 
 /// The library's words as they are now.
 fn library_words(n: usize) -> Vec<String> {
-    let Run { outcome, counts, figures, .. } = Case::new(&t(n), GLOW_BUDGET, Lengths::largest()).check().run().clone();
+    let Run { outcome, counts, figures, .. } = Case::new(Rules::First, &t(n), GLOW_BUDGET, Lengths::largest()).check().run().clone();
     let end = match outcome { Outcome::Normal(_) => "normal".into(), Outcome::Refused(number) => format!("refused {number}"), Outcome::Spent => "spent".into() };
     let words = format!("{} {} {} {end}", counts.beta, counts.steps(), bytes(figures.nodes, figures.cells, figures.names));
     words.split(' ').map(String::from).collect()

@@ -10,7 +10,8 @@ fn examples_print_as_written() {
     for path in examples() {
         let file = std::fs::read(&path).unwrap();
         let out = std::fs::read_to_string(path.with_extension("out")).unwrap();
-        assert_eq!(printed(&Case::glow(&file).check()), out, "{}", path.display());
+        Case::glow(Rules::OnDemand, &file).check();
+        assert_eq!(printed(&Case::glow(Rules::First, &file).check()), out, "{}", path.display());
     }
 }
 
@@ -66,6 +67,7 @@ mod library {
     use super::*;
     use glow_tests::case::told;
     use glow_tests::flat::from_text;
+    use glow_tests::marked::FF;
 
     /// One Stores, never cleared, for all calls: what the stores held before changes nothing.
     #[test]
@@ -75,16 +77,29 @@ mod library {
             for path in examples() {
                 let file = std::fs::read(&path).unwrap();
                 let f = u16::from_le_bytes([file[0], file[1]]) as usize;
-                let want = evaluate(&file, GLOW_BUDGET, &Lengths::glow());
-                assert_eq!(told(f, stores.evaluate(&file, GLOW_BUDGET)), want);
-                assert_eq!(told(f, stores.evaluate_on_this_stack(&file, GLOW_BUDGET)), want);
-                for budget in 0..40 { assert_eq!(told(f, stores.evaluate(&file, budget)), evaluate(&file, budget, &Lengths::glow())); }
+                for rules in BOTH {
+                    let want = evaluate(rules, &file, GLOW_BUDGET, &Lengths::glow());
+                    assert_eq!(told(f, stores.evaluate(rules.into(), &file, GLOW_BUDGET)), want);
+                    assert_eq!(told(f, stores.evaluate_on_this_stack(rules.into(), &file, GLOW_BUDGET)), want);
+                    for budget in 0..40 { assert_eq!(told(f, stores.evaluate(rules.into(), &file, budget)), evaluate(rules, &file, budget, &Lengths::glow())); }
+                }
             }
-            for bytes in [&[1, 0, 1][..], &[0, 0, 0, 0], &[1, 0, 1, 0, 0], &[1, 0, 1, 0, 3, 0, 0]] { assert_eq!(told(0, stores.evaluate(bytes, 9)), evaluate(bytes, 9, &Lengths::glow())); }
+            for bytes in [&[1, 0, 1][..], &[0, 0, 0, 0], &[1, 0, 1, 0, 0], &[1, 0, 1, 0, 3, 0, 0]] {
+                for rules in BOTH { assert_eq!(told(0, stores.evaluate(rules.into(), bytes, 9)), evaluate(rules, bytes, 9, &Lengths::glow())); }
+            }
         }
-        let glow::Answer::Ran { outcome: glow::Outcome::Normal { term }, .. } = stores.evaluate(&from_text(1, "a6 l1 a1 v1 a1 v0 v1 l2 v2").file(), 100) else { panic!() };
-        assert_eq!(term.to_string(), "a1 v0 l1 v1");
-        assert_eq!(term.to_file(1), from_text(1, "a1 v0 l1 v1").file());
+        for (machine, substs) in [(glow::Machine::First, 2), (glow::Machine::OnDemand, 1)] {
+            let glow::Answer::Ran { outcome: glow::Outcome::Normal { term }, report } = stores.evaluate(machine, &from_text(1, FF).file(), 100) else { panic!() };
+            assert_eq!((term.to_string().as_str(), report.subst), ("a1 v0 l1 v1", substs));
+            assert_eq!(term.to_file(1), from_text(1, "a1 v0 l1 v1").file());
+        }
+    }
+
+    /// The wrapper's machines have the numbers of the header, which are those of the second implementation.
+    #[test]
+    fn the_wrappers_machines() {
+        for rules in BOTH { assert_eq!(glow::Machine::from(rules).number(), rules.number()); }
+        assert_eq!([glow::Machine::First, glow::Machine::OnDemand].map(glow::Machine::number), [0, 1]);
     }
 
     /// The refusals of a file and of a run have their numbers, and go there and back. 13 is no refusal's.
@@ -137,8 +152,10 @@ mod library {
         let lengths = [0, 1, 3, 4, 7, 8, 63, 64, 1000, 16_384, 32_767, 32_768, 32_772, 100_000];
         for nodes in lengths { for cells in lengths { told += &format!("{nodes} {cells} {}\n", glow::stack_needed(nodes, cells)); } }
         told += &format!("{} {}\n", glow::Stores::glow().stack_needed(), glow::MOST_STACK_NEEDED);
-        // a report that is too short, no file, no nodes, and a file that needs no cell
-        told += "4\n3 1\n2 9\n0 1\n";
+        // the two machines' numbers and the status without one, and that status
+        told += &format!("{} {} 5\n5\n", glow::Machine::First.number(), glow::Machine::OnDemand.number());
+        // on each machine: a report that is too short, no file, no nodes, and a file that needs no cell
+        told += &"4\n3 1\n2 9\n0 1\n".repeat(2);
         told += &format!("{} {} {} {} {}\n", glow::EXCHANGE_REPORT_LEN, glow::STACK_FOR_AN_EXCHANGE, glow::MOST_IMPORTED, glow::MOST_EXPORTED, glow::MOST_NODES_IN_A_FILE);
         told += &format!("{} {} {}\n", glow::ExchangeRefusal::BitsTooShort.number(), glow::ExchangeRefusal::Padding.number(), glow::ExchangeRefusal::BitsLimits.number());
         // of import and export the statuses; a report that is too short; no bits, no room, no file, no room

@@ -180,9 +180,11 @@ fn random_pairs() {
     compared.print("random", [1_000_000, 400_000, 10, 400_000, 400_000, 40_000, 400_000]);
 }
 
-/// The two allowances that the library reports, for terms with many variables and applications, ended after so many beta steps.
+/// The two allowances that the library reports on each machine, for terms with many variables and applications, ended after so many
+/// beta steps.
 #[test]
 fn reported_by_the_library() {
+    use glow::Machine;
     let largest = longest_copied_chain(&link_rename(), 1, 32_768, &v(Y)).1;
     let terms = [
         ("numeral 8186 of I and y", 1, chain_by_numeral(church(8186))),
@@ -205,22 +207,25 @@ fn reported_by_the_library() {
         let file = canonical(f, &t).file();
         let variables = t.iter().filter(|x| matches!(x, F::V(_))).count() as u32;
         let applications = t.iter().filter(|x| matches!(x, F::A)).count() as u32;
-        let mut report_at = |budget: u32| {
-            let glow::Answer::Ran { report, .. } = stores.evaluate(&file, budget) else { panic!("{name}: the file is refused") };
-            report
-        };
-        let betas = report_at(u32::MAX).beta as u32;
-        for budget in [0, 1, 2, 3, 254, 255, 256, 1000, 4095, 4096, betas / 2, betas.saturating_sub(1), betas, betas + 1, u32::MAX] {
-            let report = report_at(budget);
-            assert_eq!(report.beta, u64::from(budget.min(betas)), "{name}, budget {budget}");
-            let told = [report.subst_allowance, report.shift_allowance].map(u128::from);
-            let beta = report.beta as u32;
-            assert_eq!(told, [second_allowance(beta, variables), second_allowance(beta, 2 * applications)], "{name}, budget {budget}");
-            let now = [variables.into(), applications.into(), report.beta, report.subst_allowance, report.shift_allowance];
-            for (most, now) in most.iter_mut().zip(now) { *most = now.max(*most); }
-            calls += 1;
+        for machine in [Machine::First, Machine::OnDemand] {
+            let mut report_at = |budget: u32| {
+                let glow::Answer::Ran { report, .. } = stores.evaluate(machine, &file, budget) else { panic!("{name}: the file is refused") };
+                report
+            };
+            let betas = report_at(u32::MAX).beta as u32;
+            for budget in [0, 1, 2, 3, 254, 255, 256, 1000, 4095, 4096, betas / 2, betas.saturating_sub(1), betas, betas + 1, u32::MAX] {
+                let report = report_at(budget);
+                assert_eq!(report.beta, u64::from(budget.min(betas)), "{name}, {machine:?}, budget {budget}");
+                let told = [report.subst_allowance, report.shift_allowance].map(u128::from);
+                let beta = report.beta as u32;
+                let of_substs = match machine { Machine::First => second_allowance(beta, variables), Machine::OnDemand => u128::from(beta) + 1 };
+                assert_eq!(told, [of_substs, second_allowance(beta, 2 * applications)], "{name}, {machine:?}, budget {budget}");
+                let now = [variables.into(), applications.into(), report.beta, report.subst_allowance, report.shift_allowance];
+                for (most, now) in most.iter_mut().zip(now) { *most = now.max(*most); }
+                calls += 1;
+            }
+            println!("{name}: V = {variables}, A = {applications}, to {betas} beta steps on the machine {machine:?}");
         }
-        println!("{name}: V = {variables}, A = {applications}, to {betas} beta steps");
     }
     println!("{calls} calls; the most of V, A, b and the two allowances: {most:?}");
     assert!(most.iter().zip([8192, 8191, 10_000, 60_000_000, 120_000_000]).all(|(&m, least)| m >= least));

@@ -3,8 +3,9 @@
 #![cfg(feature = "library")]
 use glow_tests::families::*;
 use glow_tests::flat::*;
-use glow_tests::machine::{evaluate, printed, Lengths, GLOW_BUDGET};
+use glow_tests::machine::{evaluate, printed, Lengths, Rules, GLOW_BUDGET};
 use glow_tests::file::REFUSED_FILES;
+use glow_tests::marked::FF;
 use glow_tests::process::{examples, file_of, program, run, run_unseen, Ended};
 use std::fs::File;
 use std::io::{Read, Seek, Write};
@@ -18,7 +19,7 @@ fn glow(input: impl Into<Stdio>) -> Command { let mut c = Command::new(program()
 /// A shell that sets descriptors or signals as the script says and then becomes the program.
 fn shell(script: &str, input: impl Into<Stdio>) -> Command { let mut c = Command::new("sh"); c.args(["-c", &format!("{script} exec \"$0\"")]).arg(program()).stdin(input); c }
 
-fn expected(file: &[u8]) -> String { printed(&evaluate(&file[..file.len().min(READ)], GLOW_BUDGET, &Lengths::glow())) }
+fn expected(file: &[u8]) -> String { printed(&evaluate(Rules::First, &file[..file.len().min(READ)], GLOW_BUDGET, &Lengths::glow())) }
 
 /// The bytes of the text, or else where they part from it: a text may have more than a screen holds.
 #[track_caller]
@@ -49,7 +50,7 @@ fn killed(ended: Ended, signal: i32) { assert_eq!(ended, Ended { status: None, s
 
 fn term(f: usize, text: &str) -> Vec<u8> { from_text(f, text).file() }
 /// Example 1 of source document 000.
-fn example() -> Vec<u8> { term(1, "a6 l1 a1 v1 a1 v0 v1 l2 v2") }
+fn example() -> Vec<u8> { term(1, FF) }
 /// The longest texts: results of 16,384 nodes, or of 16,383 where the nodes are paired off, with small and with large names.
 fn largest() -> Vec<Vec<u8>> {
     let file = |f: usize, t: Flat| canonical(f, &t).file();

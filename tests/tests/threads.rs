@@ -1,9 +1,9 @@
-//! The wrapper's `evaluate` on stacks of all sizes: the right answer, and no crash.
+//! The wrapper's `evaluate`, on both machines, on stacks of all sizes: the right answer, and no crash.
 #![cfg(feature = "library")]
 use glow_tests::case::deep_calls;
 use glow_tests::families::abstraction_chain;
 use glow_tests::flat::canonical;
-use glow_tests::machine::GLOW_BUDGET;
+use glow_tests::machine::{BOTH, GLOW_BUDGET};
 use glow_tests::painted::on_stack;
 use std::ffi::c_void;
 use std::os::raw::c_int;
@@ -22,8 +22,10 @@ fn another_thread_only_where_needed() {
     let file = canonical(0, &abstraction_chain(4095)).file();
     let mut stores = glow::Stores::glow();
     let needed = stores.stack_needed();
-    assert!(on_stack(8 << 20, || { stores.evaluate(&file, GLOW_BUDGET); }) > needed / 2);
-    assert!(on_stack(1 << 20, || { stores.evaluate(&file, GLOW_BUDGET); }) < needed / 16);
+    for rules in BOTH {
+        assert!(on_stack(8 << 20, || { stores.evaluate(rules.into(), &file, GLOW_BUDGET); }) > needed / 2);
+        assert!(on_stack(1 << 20, || { stores.evaluate(rules.into(), &file, GLOW_BUDGET); }) < needed / 16);
+    }
 }
 
 /// The first thread of a program, with its stack limited by the system.

@@ -32,7 +32,7 @@ impl ExchangeStatus {
             0 => ExchangeStatus::Written,
             3 => ExchangeStatus::Refused,
             4 => ExchangeStatus::ReportTooShort,
-            other => panic!("an import or an export answered {other}, which no paper names"),
+            other => panic!("an import or an export answered {other}, which is no status of this wrapper"),
         }
     }
 }

@@ -1,10 +1,11 @@
-//! A safe wrapper of the glow library: open lambda terms evaluated by the Easy GLAMOUR machine.
+//! A safe wrapper of the glow library: open lambda terms evaluated by the Easy GLAMOUR machine, or by the Fast GLAMOUR machine,
+//! which copies functions on demand: see [`Machine`].
 //!
 //! ```no_run
-//! use glow::{Answer, Outcome, Stores};
+//! use glow::{Answer, Machine, Outcome, Stores};
 //! let mut stores = Stores::glow();
 //! let file = [1, 0, 4, 0, 2, 1, 0, 0, 2, 0, 1, 0, 1, 0, 0, 0]; // (\x. x) y
-//! if let Answer::Ran { outcome: Outcome::Normal { term }, report } = stores.evaluate(&file, 1000) {
+//! if let Answer::Ran { outcome: Outcome::Normal { term }, report } = stores.evaluate(Machine::First, &file, 1000) {
 //!     println!("{term} after {} beta steps", report.beta);
 //! }
 //! ```
@@ -39,7 +40,7 @@ pub const MOST_COUNTED: usize = 32_768;
 mod ffi {
     extern "C" {
         pub fn glow_evaluate(
-            file: *const u8, file_len: usize, budget: u32,
+            machine: u32, file: *const u8, file_len: usize, budget: u32,
             tags: *mut u8, tags_len: usize, args: *mut u16, args_len: usize,
             codes: *mut u16, codes_len: usize, owns: *mut u16, owns_len: usize,
             nexts: *mut u16, nexts_len: usize,
@@ -51,7 +52,33 @@ mod ffi {
     }
 }
 
-/// What the call itself says.
+/// The machine that evaluates.
+///
+/// Where no store refuses, both give the same outcome, the same count of beta steps and the same term. The other counts and
+/// what is taken of the stores are each machine's own; so are the refusals that come of it.
+#[derive(Clone, Copy, Debug, PartialEq, Eq)]
+pub enum Machine {
+    /// Easy GLAMOUR, which the program glow runs. Wherever a name that stands for a function is met, the function is copied.
+    /// Each beta step takes the same short time, however long the body is. To choose where functions are mostly applied, and
+    /// where a run has to be the program's, step by step.
+    ///
+    /// It makes at most (1 + b) V substs, with b the beta steps made and V the variables of the file.
+    First = 0,
+    /// Fast GLAMOUR. A function is copied only where it is applied: one that is only passed along takes no further nodes and
+    /// no further names. For that, a beta step whose argument is a name alone puts this name into the whole body at once,
+    /// which takes time with the body's length. To choose where functions are mostly passed along, as long libraries do, or
+    /// where the first machine is refused for want of nodes.
+    ///
+    /// It makes at most 1 + b substs, however long the file is.
+    OnDemand = 1,
+}
+
+impl Machine {
+    /// The number by which the library knows it.
+    pub fn number(self) -> u32 { self as u32 }
+}
+
+/// What the call itself says. A machine that the library does not know, its status 5, cannot be named here.
 #[derive(Clone, Copy, Debug, PartialEq, Eq)]
 pub enum Status { Normal, Spent, Refused, FileRefused, ReportTooShort }
 
@@ -63,7 +90,7 @@ impl Status {
             2 => Status::Refused,
             3 => Status::FileRefused,
             4 => Status::ReportTooShort,
-            other => panic!("glow_evaluate answered {other}, which no paper names"),
+            other => panic!("glow_evaluate answered {other}, which is no status of this wrapper"),
         }
     }
 }
@@ -184,9 +211,9 @@ impl Stores {
         stack_needed(self.tags.len().min(self.args.len()), self.codes.len().min(self.owns.len()).min(self.nexts.len()))
     }
 
-    /// Evaluates a term file with at most `budget` beta steps, on any thread. After the last of them the run goes on
-    /// until no step fits, a store is full or another beta is next; so [`Outcome::Spent`] says that the term has a
-    /// further beta step. Every call ends, whatever the budget.
+    /// Evaluates a term file with this machine, with at most `budget` beta steps, on any thread. After the last of them the
+    /// run goes on until no step fits, a store is full or another beta is next; so [`Outcome::Spent`] says that the term has
+    /// a further beta step. Every call ends, whatever the budget.
     ///
     /// Where less stack is left than
     /// [`Stores::stack_needed`] tells, or it is not known how much, the call is made on a thread of its own.
@@ -195,8 +222,8 @@ impl Stores {
     ///
     /// Where such a thread cannot be started, as [`std::thread::spawn`] does. Who must rule that out gives the thread
     /// the stack that is needed, and calls [`Stores::evaluate_on_this_stack`].
-    pub fn evaluate(&mut self, file: &[u8], budget: u32) -> Answer {
-        stack::with_stack(self.stack_needed(), || self.evaluate_on_this_stack(file, budget))
+    pub fn evaluate(&mut self, machine: Machine, file: &[u8], budget: u32) -> Answer {
+        stack::with_stack(self.stack_needed(), || self.evaluate_on_this_stack(machine, file, budget))
     }
 
     /// As [`Stores::evaluate`], on the thread that it is called on, however little stack that has.
@@ -205,10 +232,10 @@ impl Stores {
     ///
     /// Where less than [`Stores::stack_needed`] is left, a term that is nested deeply enough **ends the process**: the
     /// stack overflows, which no caller can catch. A thread of Rust's standard library has 2 MiB unless told otherwise.
-    pub fn evaluate_on_this_stack(&mut self, file: &[u8], budget: u32) -> Answer {
+    pub fn evaluate_on_this_stack(&mut self, machine: Machine, file: &[u8], budget: u32) -> Answer {
         let mut raw = [0u64; REPORT_LEN];
         let status = evaluate_in_on_this_stack(
-            file, budget, &mut self.tags, &mut self.args, &mut self.codes, &mut self.owns,
+            machine, file, budget, &mut self.tags, &mut self.args, &mut self.codes, &mut self.owns,
             &mut self.nexts, &mut self.places, &mut self.renumber, &mut self.out_tags,
             &mut self.out_args, &mut raw,
         );
@@ -235,13 +262,13 @@ impl Stores {
 /// The call on slices of any lengths and with the report as raw numbers, on any thread, as [`Stores::evaluate`] is.
 #[allow(clippy::too_many_arguments)]
 pub fn evaluate_in(
-    file: &[u8], budget: u32, tags: &mut [u8], args: &mut [u16], codes: &mut [u16], owns: &mut [u16],
+    machine: Machine, file: &[u8], budget: u32, tags: &mut [u8], args: &mut [u16], codes: &mut [u16], owns: &mut [u16],
     nexts: &mut [u16], places: &mut [u16], renumber: &mut [u16], out_tags: &mut [u8],
     out_args: &mut [u16], report: &mut [u64],
 ) -> Status {
     let needed = stack_needed(tags.len().min(args.len()), codes.len().min(owns.len()).min(nexts.len()));
     stack::with_stack(needed, || evaluate_in_on_this_stack(
-        file, budget, tags, args, codes, owns, nexts, places, renumber, out_tags, out_args, report,
+        machine, file, budget, tags, args, codes, owns, nexts, places, renumber, out_tags, out_args, report,
     ))
 }
 
@@ -252,7 +279,7 @@ pub fn evaluate_in(
 /// As of [`Stores::evaluate_on_this_stack`]: with less stack than [`stack_needed`] tells it may **end the process**.
 #[allow(clippy::too_many_arguments)]
 pub fn evaluate_in_on_this_stack(
-    file: &[u8], budget: u32, tags: &mut [u8], args: &mut [u16], codes: &mut [u16], owns: &mut [u16],
+    machine: Machine, file: &[u8], budget: u32, tags: &mut [u8], args: &mut [u16], codes: &mut [u16], owns: &mut [u16],
     nexts: &mut [u16], places: &mut [u16], renumber: &mut [u16], out_tags: &mut [u8],
     out_args: &mut [u16], report: &mut [u64],
 ) -> Status {
@@ -260,7 +287,7 @@ pub fn evaluate_in_on_this_stack(
     // length; the slices are borrowed exclusively, so none overlaps another.
     let number = unsafe {
         ffi::glow_evaluate(
-            file.as_ptr(), file.len(), budget,
+            machine.number(), file.as_ptr(), file.len(), budget,
             tags.as_mut_ptr(), tags.len(), args.as_mut_ptr(), args.len(),
             codes.as_mut_ptr(), codes.len(), owns.as_mut_ptr(), owns.len(),
             nexts.as_mut_ptr(), nexts.len(), places.as_mut_ptr(), places.len(),

@@ -10,8 +10,10 @@
 //!
 //! For a node that a run takes is part of exactly one code that its state holds, or has been used up by exactly one
 //! enter, beta or subst: each of these removes the first node of the code, a leave moves a code, and the nodes of a copy
-//! are newly taken. A cell is taken by an enter, and an entry is made by a beta. From the top of a result down to the
-//! deepest call no item is passed twice, since nothing stands for a part of itself. So these nodes are different ones:
+//! are newly taken. On demand a beta that renames also drops the variable that is its argument, and makes no entry; the
+//! names that it puts into the body stand at nodes of the body. A cell is taken by an enter, and an entry is made by a
+//! beta. From the top of a result down to the deepest call no item is passed twice, since nothing stands for a part of
+//! itself. So these nodes are different ones:
 //!
 //! - a name inside an abstraction: the abstraction, the name, the enter of its entry's cell, the beta that made the entry;
 //! - a name with a stack that is not empty: the same enter and beta, and of the stack's first cell the enter and the first node;

@@ -9,7 +9,7 @@ unsafe fn slice_mut<'a, T>(start: *mut T, len: usize) -> &'a mut [T] { if len ==
 #[no_mangle]
 #[allow(clippy::too_many_arguments)]
 pub unsafe extern "C" fn glow_evaluate(
-    file: *const u8, file_len: usize, budget: u32,
+    machine: u32, file: *const u8, file_len: usize, budget: u32,
     tags: *mut u8, tags_len: usize, args: *mut u16, args_len: usize,
     codes: *mut u16, codes_len: usize, owns: *mut u16, owns_len: usize, nexts: *mut u16, nexts_len: usize,
     places: *mut u16, places_len: usize, renumber: *mut u16, renumber_len: usize,
@@ -23,7 +23,7 @@ pub unsafe extern "C" fn glow_evaluate(
         out_tags: slice_mut(out_tags, out_tags_len), out_args: slice_mut(out_args, out_args_len),
     };
     // a status that means nothing where a wrong machine panics, so that one test fails and the others go on
-    let call = || evaluate(slice(file, file_len), budget, &mut lent, slice_mut(report, report_len));
+    let call = || evaluate(machine, slice(file, file_len), budget, &mut lent, slice_mut(report, report_len));
     std::panic::catch_unwind(std::panic::AssertUnwindSafe(call)).unwrap_or(99)
 }
 

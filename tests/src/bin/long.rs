@@ -1,4 +1,4 @@
-//! Longer runs by hand:
+//! Longer runs by hand, each on both machines:
 //!   long random [SEED] [TERMS]   random cases for ever, or as many terms as said; a line per 100,000 cases
 //!   long all F N                 all terms of exactly N nodes with F free names, every budget to the betas needed and one more
 //!   long slow                    results that are slow to write, timed
@@ -24,12 +24,13 @@ fn random_cases() {
         if t.len() > 16_384 { continue; }
         let mut file = canonical(f, &t).file();
         if r.one_in(3) { random::damage(&mut r, &mut file); }
-        let full = evaluate(&file, MOST, &Lengths::largest());
-        for _ in 0..8 {
-            let lengths = random::lengths(&mut r, &full);
-            let budget = random::budget(&mut r, &full, MOST);
+        let full = BOTH.map(|rules| (rules, evaluate(rules, &file, MOST, &Lengths::largest())));
+        for k in 0..8 {
+            let (rules, full) = &full[k % 2];
+            let lengths = random::lengths(&mut r, full);
+            let budget = random::budget(&mut r, full, MOST);
             let (garbage, report_len) = (if r.one_in(4) { r.below(3) as u64 } else { r.next() }, if r.one_in(40) { r.below(20) } else { 12 });
-            kinds[Case { file: &file, budget, lengths, garbage, report_len, nulls: garbage % 2 == 1 }.check().kind()] += 1;
+            kinds[Case { rules: *rules, file: &file, budget, lengths, garbage, report_len, nulls: garbage % 2 == 1 }.check().kind()] += 1;
             done += 1;
             if done % 100_000 == 0 { println!("{done} cases, normal {} spent {} refusals 1.. {:?}", kinds[0], kinds[14], &kinds[1..13]); }
         }
@@ -42,7 +43,7 @@ fn random_deep() {
     for round in 0..number(3, u64::MAX) {
         let (f, t) = loop { let (f, t) = random::term(&mut r); if t.len() > 300 && t.len() <= 16_384 { break (f, t); } };
         let file = canonical(f, &t).file();
-        for lengths in [Lengths::glow(), Lengths::largest()] { Case::new(&file, GLOW_BUDGET, lengths).garbage(r.next()).check(); }
+        for lengths in [Lengths::glow(), Lengths::largest()] { for rules in BOTH { Case::new(rules, &file, GLOW_BUDGET, lengths).garbage(r.next()).check(); } }
         if round % 1000 == 999 { println!("{} large terms", round + 1); }
     }
 }
@@ -51,11 +52,13 @@ fn slow() {
     for (n, nodes, lengths) in [(9, 16_300, Lengths::glow()), (11, 16_300, Lengths::glow()), (13, 16_300, Lengths::glow()), (13, 32_700, Lengths::largest())] {
         let (links, t) = glow_tests::families::slow_to_write(n, nodes);
         let file = canonical(1, &t).file();
-        let start = std::time::Instant::now();
-        let answer = evaluate(&file, GLOW_BUDGET, &lengths);
-        let second = start.elapsed().as_secs_f64();
-        Case::new(&file, GLOW_BUDGET, lengths).check_against(&answer);
-        println!("t_{n} over {links} renamings, {} nodes: second implementation {second:.2} s, library {:.2} s", t.len(), start.elapsed().as_secs_f64() - second);
+        for rules in BOTH {
+            let start = std::time::Instant::now();
+            let answer = evaluate(rules, &file, GLOW_BUDGET, &lengths);
+            let second = start.elapsed().as_secs_f64();
+            Case::new(rules, &file, GLOW_BUDGET, lengths).check_against(&answer);
+            println!("t_{n} over {links} renamings, {} nodes, {rules:?}: second implementation {second:.2} s, library {:.2} s", t.len(), start.elapsed().as_secs_f64() - second);
+        }
     }
 }
 
@@ -67,9 +70,11 @@ fn all() {
     for t in terms.iter() {
         let file = canonical(f, t).file();
         let lengths = Lengths::of(600, 300, 300, 300, 300);
-        let full = Case::new(&file, 40, lengths).check();
-        cases += 1;
-        for budget in 0..full.run().counts.beta as u32 + 2 { Case::new(&file, budget, lengths).garbage(budget as u64).check(); cases += 1; }
+        for rules in BOTH {
+            let full = Case::new(rules, &file, 40, lengths).check();
+            cases += 1;
+            for budget in 0..full.run().counts.beta as u32 + 2 { Case::new(rules, &file, budget, lengths).garbage(budget as u64).check(); cases += 1; }
+        }
     }
     println!("f = {f}, {n} nodes: {} terms, {cases} cases", terms.len());
 }

@@ -3,6 +3,7 @@ use crate::Kinds;
 use glow_tests::exchange::{Exchange, Given};
 use glow_tests::file::REFUSED_FILES;
 use glow_tests::flat::from_text;
+use glow_tests::marked::FF;
 
 /// Bits for each answer of an import, with f; the largest f is given with bits of each kind.
 fn imports() -> Vec<(&'static [u8], u32, Result<(), u8>)> {
@@ -41,7 +42,7 @@ fn imports() -> Vec<(&'static [u8], u32, Result<(), u8>)> {
 }
 
 fn exports() -> Vec<(Vec<u8>, Result<(), u8>)> {
-    let accepted = [(0, "l0 v0"), (1, "v0"), (0, "l0 a1 v0 v0"), (1, "a6 l1 a1 v1 a1 v0 v1 l2 v2"), (40, "a1 v39 l40 v0")].map(|(f, text)| (from_text(f, text).file(), Ok(())));
+    let accepted = [(0, "l0 v0"), (1, "v0"), (0, "l0 a1 v0 v0"), (1, FF), (40, "a1 v39 l40 v0")].map(|(f, text)| (from_text(f, text).file(), Ok(())));
     let refused = REFUSED_FILES.into_iter().zip(1..).map(|(file, n)| (file.to_vec(), Err(n)));
     accepted.into_iter().chain(refused).chain([(vec![], Err(1))]).collect()
 }

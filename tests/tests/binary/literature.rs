@@ -88,7 +88,9 @@ fn known_for() {
     ] {
         let bits = glow::export_to_vec(&canonical(f, &with_indices(text)).file()).unwrap();
         let file = glow::import_to_vec(&bits, f as u32).unwrap();
-        let glow::Answer::Ran { outcome: glow::Outcome::Normal { term }, .. } = stores.evaluate(&file, 1000) else { panic!("{text}") };
-        assert_eq!(term.to_string(), result, "{text}");
+        for machine in [glow::Machine::First, glow::Machine::OnDemand] {
+            let glow::Answer::Ran { outcome: glow::Outcome::Normal { term }, .. } = stores.evaluate(machine, &file, 1000) else { panic!("{text}") };
+            assert_eq!(term.to_string(), result, "{text}");
+        }
     }
 }

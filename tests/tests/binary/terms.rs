@@ -52,7 +52,7 @@ fn known_terms() {
 fn evaluated() {
     use glow_tests::case::told;
     use glow_tests::exchange::check_wrapper;
-    use glow_tests::machine::{evaluate, Lengths, GLOW_BUDGET};
+    use glow_tests::machine::{evaluate, Lengths, BOTH, GLOW_BUDGET};
     let mut stores = glow::Stores::glow();
     let mut normal = 0;
     for (name, file) in known() {
@@ -60,10 +60,12 @@ fn evaluated() {
         let bits = glow::export_to_vec(&file).unwrap();
         check_wrapper(Given::File(&file), &Ok(bits.clone()));
         check_wrapper(Given::Bits(&bits, f.into()), &Ok(file.clone()));
-        let answer = told(f.into(), stores.evaluate(&glow::import_to_vec(&bits, f.into()).unwrap(), GLOW_BUDGET));
-        assert_eq!(answer, evaluate(&file, GLOW_BUDGET, &Lengths::glow()), "{name}");
-        if answer.kind() == 0 { normal += 1; }
+        for rules in BOTH {
+            let answer = told(f.into(), stores.evaluate(rules.into(), &glow::import_to_vec(&bits, f.into()).unwrap(), GLOW_BUDGET));
+            assert_eq!(answer, evaluate(rules, &file, GLOW_BUDGET, &Lengths::glow()), "{name}");
+            if answer.kind() == 0 { normal += 1; }
+        }
     }
-    println!("{} terms evaluated from bits, {normal} to a normal form", known().len());
+    println!("{} terms evaluated from bits on both machines, {normal} times to a normal form", known().len());
     assert!(normal > 100);
 }

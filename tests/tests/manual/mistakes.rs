@@ -2,7 +2,7 @@
 use crate::links::links_lead;
 use crate::named::{arrays, constants, definitions, header_table, promises, sentences};
 use crate::shown::{outputs, pairs, Place};
-use crate::tried::{byte_by_byte, refusals, refusals_in_c, step_by_step, worked_imports, worked_runs};
+use crate::tried::{byte_by_byte, refusals, refusals_in_c, step_by_step, worked_imports, worked_runs, worked_runs_on_demand};
 use crate::{header, manual, Checked};
 use glow_tests::process::root;
 
@@ -47,12 +47,16 @@ fn mistakes_are_found_out() {
     found_out(worked_runs, "| budget 0 | spent |", "| budget 1 | spent |");
     found_out(worked_runs, "| budget 2 | spent |", "| budget 3 | spent |");
     found_out(worked_runs, "| 25 | 3 | 6 |", "| 25 | 3 | 7 |");
+    found_out(worked_runs_on_demand, "| 17 | 3 | 4 |", "| 17 | 3 | 5 |");
+    found_out(worked_runs_on_demand, "| 11 | 3 | 4 |", "| 13 | 3 | 5 |");
     found_out(step_by_step, "| leave-inert | `v1` |", "| leave-fun | `v1` |");
     found_out(step_by_step, "| 11 3 4 |", "| 11 3 5 |");
     found_out(byte_by_byte, "| 29 | `02 00` |", "| 29 | `03 00` |");
     found_out(|text| header_table(text, "element", "glow_report"), "| 5 | `GLOW_LEAVE_FUN` |", "| 5 | `GLOW_LEAVE_INERT` |");
     found_out(|text| header_table(text, "status", "glow_exchange_status"), "| 3 | `GLOW_EXCHANGE_REFUSED` |", "| 2 | `GLOW_EXCHANGE_REFUSED` |");
     found_out(|text| header_table(text, "status", "glow_status"), "| 3 | `GLOW_FILE_REFUSED` |", "| 3 | `GLOW_EXCHANGE_REFUSED` |");
+    found_out(|text| header_table(text, "status", "glow_status"), "| 5 | `GLOW_NO_SUCH_MACHINE` |", "| 6 | `GLOW_NO_SUCH_MACHINE` |");
+    found_out(|text| header_table(text, "machine", "glow_machine"), "| 1 | `GLOW_ON_DEMAND` |", "| 2 | `GLOW_ON_DEMAND` |");
     found_out(constants, "106,496 |", "106,497 |");
     found_out(constants, "172,032 |", "170,232 |");
     found_out(constants, "`GLOW_MOST_EXPORTED` |", "`GLOW_MOST_IMPORTED` |");

@@ -110,7 +110,8 @@ pub fn arrays(text: &str) -> Checked {
 #[test]
 fn names_and_numbers() {
     let text = manual();
-    assert_eq!((header_table(&text, "status", "glow_status"), header_table(&text, "status", "glow_exchange_status")), (Ok(5), Ok(3)));
+    assert_eq!((header_table(&text, "status", "glow_status"), header_table(&text, "status", "glow_exchange_status")), (Ok(6), Ok(3)));
+    assert_eq!(header_table(&text, "machine", "glow_machine"), Ok(2));
     assert_eq!(header_table(&text, "element", "glow_report"), Ok(12));
     assert_eq!((constants(&text), sentences(&text), arrays(&text)), (Ok(9), Ok(24), Ok(5)));
     assert_eq!(lent().len(), 9);
@@ -142,7 +143,7 @@ pub fn promises(text: &str) -> Checked {
 
 #[test]
 fn each_promise() {
-    assert_eq!(promises(&manual()), Ok(6));
+    assert_eq!(promises(&manual()), Ok(7));
     assert!(fields(&root().join("crates/evaluator/specs/Promise.antt"), "Called").len() >= 15);
 }
 

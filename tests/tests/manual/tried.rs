@@ -4,7 +4,7 @@ use glow_tests::binary::fitted;
 use glow_tests::case::{told, Case};
 use glow_tests::exchange::{check_wrapper, Exchange, Given};
 use glow_tests::flat::from_text;
-use glow_tests::machine::{evaluate_watched, Answer, Lengths, Outcome, Step, GLOW_BUDGET};
+use glow_tests::machine::{evaluate_watched, Answer, Lengths, Outcome, Rules, Step, BOTH, GLOW_BUDGET};
 use glow_tests::markdown::quoted;
 use glow_tests::process::{file_of, program, root, run};
 use std::process::Command;
@@ -57,18 +57,18 @@ fn calling(said: &[&str]) -> Result<(u32, Lengths), String> {
 }
 
 /// The answer of the library, through the wrapper, and of the second implementation, which have to be the same.
-fn answered(file: &[u8], budget: u32, l: Lengths) -> Result<Answer, String> {
+fn answered(rules: Rules, file: &[u8], budget: u32, l: Lengths) -> Result<Answer, String> {
     let mut stores = glow::Stores::new(l.tags, l.codes, l.places, l.renumber, l.out_tags);
     let f = file.get(..2).map_or(0, |two| u16::from_le_bytes([two[0], two[1]]) as usize);
-    let answer = told(f, stores.evaluate(file, budget));
-    same("the library's answer", &answer, &Case::new(file, budget, l).check())?;
+    let answer = told(f, stores.evaluate(rules.into(), file, budget));
+    same("the library's answer", &answer, &Case::new(rules, file, budget, l).check())?;
     Ok(answer)
 }
 
 /// 1 to 7: bytes in hexadecimal, through the library, to be evaluated and to be exported, and through the program.
 fn refused_file(n: usize, example: &str) -> Result<(), String> {
     let file = hexadecimal(example)?;
-    same(example, answered(&file, GLOW_BUDGET, Lengths::glow())?, Answer::FileRefused(n as u8))?;
+    for rules in BOTH { same(example, answered(rules, &file, GLOW_BUDGET, Lengths::glow())?, Answer::FileRefused(n as u8))?; }
     same(example, Given::File(&file).check(), Err(n as u8))?;
     let ended = run(Command::new(program()).stdin(file_of(&file)));
     same(example, ended.out.concat(), format!("refused {n}\n").into_bytes())
@@ -77,13 +77,13 @@ fn refused_file(n: usize, example: &str) -> Result<(), String> {
 /// `f = 1`.
 fn stated(f: &str) -> Result<usize, String> { number(f.strip_prefix("f = ").ok_or(format!("{f:?} does not tell f"))?) }
 
-/// 8 to 12: a term, f and the length of a store, through the library.
+/// 8 to 12: a term, f and the length of a store, through the library, on the first machine.
 fn refused_run(n: usize, example: &str) -> Result<(), String> {
     let parts: Vec<&str> = example.split(',').map(str::trim).collect();
     let [term, f, store] = parts[..] else { return Err(format!("{example}: not a term, f and a store")) };
     let f = stated(f)?;
     let (budget, l) = calling(&[store])?;
-    match answered(&from_text(f, &quoted(term).concat()).file(), budget, l)? {
+    match answered(Rules::First, &from_text(f, &quoted(term).concat()).file(), budget, l)? {
         Answer::Ran(run) => same(example, run.outcome, Outcome::Refused(n as u8)),
         Answer::FileRefused(k) => Err(format!("{example}: the file is refused by {k}")),
     }
@@ -159,11 +159,12 @@ fn outcome_shown(outcome: &Outcome) -> String {
     match outcome { Outcome::Normal(term) => format!("normal `{}`", term.text()), Outcome::Spent => "spent".into(), Outcome::Refused(n) => format!("refused {n}") }
 }
 
-pub fn worked_runs(text: &str) -> Checked {
-    let rows = table(text, &["case", "f", "term", "with", "outcome", "beta", "subst", "enter", "leave-fun", "leave-inert", "nodes", "cells", "names"])?.rows;
+/// The worked runs of a machine, whose table's first head is `head`.
+fn runs(text: &str, head: &str, rules: Rules) -> Checked {
+    let rows = table(text, &[head, "f", "term", "with", "outcome", "beta", "subst", "enter", "leave-fun", "leave-inert", "nodes", "cells", "names"])?.rows;
     for (row, letter) in rows.iter().zip('a'..) {
         let (budget, l) = calling(&[&row[3]])?;
-        let answer = answered(&from_text(number(&row[1])?, &quoted(&row[2]).concat()).file(), budget, l)?;
+        let answer = answered(rules, &from_text(number(&row[1])?, &quoted(&row[2]).concat()).file(), budget, l)?;
         let (c, s) = (answer.run().counts, answer.run().figures);
         let right: Vec<String> = [c.beta, c.subst, c.enter, c.leave_fun, c.leave_inert, s.nodes, s.cells, s.names].map(|n| n.to_string()).into();
         same("the cases", row[0].as_str(), &letter.to_string())?;
@@ -173,8 +174,14 @@ pub fn worked_runs(text: &str) -> Checked {
     Ok(rows.len())
 }
 
+pub fn worked_runs(text: &str) -> Checked { runs(text, "case", Rules::First) }
+pub fn worked_runs_on_demand(text: &str) -> Checked { runs(text, "case on demand", Rules::OnDemand) }
+
 #[test]
 fn each_worked_run() { assert!(worked_runs(&manual()).unwrap() >= 10); }
+
+#[test]
+fn each_worked_run_on_demand() { assert!(worked_runs_on_demand(&manual()).unwrap() >= 10); }
 
 fn step_name(step: Option<Step>) -> &'static str {
     match step { None => "start", Some(Step::Beta) => "beta", Some(Step::Subst) => "subst", Some(Step::Enter) => "enter", Some(Step::LeaveFun) => "leave-fun", Some(Step::LeaveInert) => "leave-inert" }
@@ -182,10 +189,10 @@ fn step_name(step: Option<Step>) -> &'static str {
 
 const WORKED_FILE: &str = "examples/03-example-1.term";
 
-/// The states of a run by the second machine, as the manual's table has them.
+/// The states of a run of the first machine by the second implementation, as the manual's table has them.
 fn states(file: &[u8]) -> Vec<Vec<String>> {
     let (mut all, mut before, mut last) = (Vec::new(), None, String::new());
-    evaluate_watched(file, GLOW_BUDGET, &Lengths::glow(), |m| {
+    evaluate_watched(Rules::First, file, GLOW_BUDGET, &Lengths::glow(), |m| {
         let s = m.figures;
         let term = format!("`{}`", m.stands_for().text());
         let mut row = vec![step_name(before).to_string()];
