@@ -1,6 +1,6 @@
 #!/usr/bin/env bash
-# Runs the benchmark: times, instructions, the program's text, and import and export, kept in bench/last.txt; then what t_n takes beside the
-# old way, kept in bench/growth.txt and drawn in docs/growth.svg. Sets up and builds what it needs. The old way needs 2 GiB of memory.
+# Runs the benchmark: times and instructions of both machines, the program's text, and import and export, kept in bench/last.txt; then what
+# t_n takes beside the old way, kept in bench/growth.txt and drawn in docs/growth.svg. Sets up and builds what it needs. The old way needs 2 GiB of memory.
 set -euo pipefail
 cd "$(dirname "$0")/.."
 tools/setup kit cc rust python valgrind

@@ -1,4 +1,4 @@
-//! What t_n of proposition 3 takes, steps and memory, the old way against the library.
+//! What t_n of proposition 3 takes, steps and memory, the old way against the library's first machine.
 //!
 //! Memory is what the nodes, cells and names taken by a run amount to, by one measure for both sides: `old::bytes`. The
 //! old way goes on to the first n where it fills `MEMORY`, the library to `LAST`. `picture.py` draws what is printed here.
@@ -30,7 +30,7 @@ pub fn table() {
 
 /// The library ends at the normal form, and refuses to write it where it is longer than the output.
 fn library_columns(n: usize, file: &[u8]) -> String {
-    let glow::Answer::Ran { outcome, report } = glow::Stores::largest().evaluate(file, crate::AMPLE) else { panic!("t_{n} is refused") };
+    let glow::Answer::Ran { outcome, report } = glow::Stores::largest().evaluate(glow::Machine::First, file, crate::AMPLE) else { panic!("t_{n} is refused") };
     assert_eq!(report.beta, n as u64);
     let end = match outcome {
         glow::Outcome::Normal { .. } => "normal",
