@@ -1,5 +1,5 @@
 #!/usr/bin/env bash
-# Tries the tests' strength: the plain machine, or the plain import and export, with one thing wrong at a time is put in the library's
+# Tries the tests' strength: a plain machine, or the plain import and export, with one thing wrong at a time is put in the library's
 # place, and the tests must fail. Works in a copy; the library itself is not touched.
 #   tools/mutants.sh [SCRATCH]        ONLY=word tries only the faults with this word in their names
 # A fault is caught by an assertion where a test compared two things and found them different, and else by a crash, or by the
@@ -133,7 +133,7 @@ try "trap 5: the output written as it is unfolded, then found too long" \
     "_ => { s.out_tags[n]" "_ => { if n == room { return None; } s.out_tags[n]"
 
 # 02, request 3: a run would consult an entry that holds a variable which itself has an abstraction as entry
-try "an unapplied variable with an abstraction as entry leaves like an inert one" \
+try "on the first machine an unapplied variable with an abstraction as entry leaves like an inert one" \
     "if s.tags[from] == 1 {" "if s.tags[from] == 1 && (stack != 0 || dump == 0) {"
 
 # the budget, for which a beta alone asks; the other places are where the other steps ask for what they need, or are made

@@ -1,5 +1,5 @@
 //! A second implementation of the papers (source document 000, 01 and 02), written separately:
-//! the calculus by plain substitution on trees, the machine by the five rules on ordinary
+//! the calculus by plain substitution on trees, the two machines by their rules on ordinary
 //! data structures, binary lambda calculus by descent into trees, and the comparison of the
 //! library with them.
 pub mod binary;

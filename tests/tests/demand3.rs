@@ -58,6 +58,8 @@ impl Nodes {
         let used = m.counts.enter + m.counts.beta + m.counts.subst + dropped;
         assert_eq!(held.iter().filter(|held| !**held).count() as u64, used, "the nodes that no code has, and those used up");
         assert!(rules == Rules::First || entries.iter().all(|nodes| nodes.len() > 1), "an entry of a single node");
+        assert_eq!(m.figures.cells, m.counts.enter, "a cell for each enter");
+        assert!(m.counts.leave_fun + m.counts.leave_inert <= m.counts.enter, "more leaves than enters");
         self.held = held;
     }
 }

@@ -21,8 +21,8 @@ fn on_demand(f: usize, text: &str, budget: u32, lengths: Lengths) -> Run {
 
 fn normal(f: usize, text: &str) -> Outcome { Outcome::Normal(from_text(f, text)) }
 
-/// The marked cases of 01, of which 02, request 2, has changed g, h and j. a, b, c, e, g and h are as on the first machine: in c, g and h a
-/// beta renames instead of making an entry, which no number shows. d ends at its variable, without a copy, and so does i. f makes one subst
+/// The marked cases of 01, of which 02, request 2, has changed g, h and j. a, b, c, e, g and h are as on the first machine: in c and g a
+/// beta renames instead of making an entry, which none of these numbers shows. d ends at its variable, without a copy, and so does i. f makes one subst
 /// for two. j leaves its variable bare, and copies only the one that is applied.
 #[test]
 fn a_to_j() {

@@ -35,7 +35,7 @@ fn cases(rules: Rules, seed: u64, terms: usize) {
     print_notes();
 }
 
-fn scaled() -> usize { std::env::var("GLOW_RANDOM_TERMS").ok().and_then(|s| s.parse().ok()).unwrap_or(40_000) }
+fn scaled() -> usize { std::env::var("GLOW_RANDOM_TERMS").ok().and_then(|s| s.parse().ok()).unwrap_or(50_000) }
 
 #[test] fn seed_1() { glow_tests::painted::on_eight_mebibytes(|| cases(Rules::First, 1, scaled())) }
 #[test] fn seed_2() { glow_tests::painted::on_eight_mebibytes(|| cases(Rules::First, 2, scaled())) }

@@ -1,6 +1,6 @@
 -- What a call from another language returns: a status, and numbers in the report array.
--- Letters: k is the number of a machine, s are the file's bytes, q is the status, m and m′ what the stores hold before and after, r and r′
--- the report array.
+-- Letters: M is a machine, k the number of one, s are the file's bytes, q is the status, m and m′ what the stores hold before and after, r
+-- and r′ the report array.
 use Prim.Native.Nat.{ℕ, _≤_, _<_}
 use mathlib.Core.Path.{_≡_}
 use mathlib.Core.Bool.{cond}

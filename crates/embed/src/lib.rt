@@ -3,9 +3,9 @@
 // `glow_evaluate` evaluates one term file, on the machine of a number: 0 the first, 1 on demand. It returns
 // a status: 0 a normal form is written, 1 the budget is spent, 2 the run is refused, 3 the file is refused,
 // 4 the report array has fewer than 12 elements, 5 the number is no machine's.
-// The report array then begins with: the refusal's number or 0, the nodes written or 0, the steps beta,
-// subst, enter, leave-fun and leave-inert, the nodes, cells and names taken, and the allowances for
-// substs and shifts. Where the file is refused only the number is written.
+// At 0 to 2 the report array begins with: the refusal's number or 0, the nodes written or 0, the steps
+// beta, subst, enter, leave-fun and leave-inert, the nodes, cells and names taken, and the allowances for
+// substs and shifts. At 3 only the number is written, and at 4 and 5 nothing is touched.
 use evaluator::Answer;
 use evaluator::Outcome;
 use evaluator::Report;

@@ -46,7 +46,7 @@ fn known_terms() {
     println!("{} terms of the families and the examples, there and back", known().len());
 }
 
-/// The whole way through the library: what it exports it imports, and its answer is that of the second machine on the first file.
+/// The whole way through the library: what it exports it imports, and its answer is that of the second implementation on the first file.
 #[cfg(feature = "library")]
 #[test]
 fn evaluated() {

@@ -2,7 +2,7 @@
 use crate::links::links_lead;
 use crate::named::{arrays, constants, definitions, header_table, promises, sentences};
 use crate::shown::{outputs, pairs, Place};
-use crate::tried::{byte_by_byte, refusals, refusals_in_c, step_by_step, worked_imports, worked_runs, worked_runs_on_demand};
+use crate::tried::{byte_by_byte, refusals, refusals_in_c, step_by_step, step_by_step_on_demand, worked_imports, worked_runs, worked_runs_on_demand};
 use crate::{header, manual, Checked};
 use glow_tests::process::root;
 
@@ -51,6 +51,7 @@ fn mistakes_are_found_out() {
     found_out(worked_runs_on_demand, "| 11 | 3 | 4 |", "| 13 | 3 | 5 |");
     found_out(step_by_step, "| leave-inert | `v1` |", "| leave-fun | `v1` |");
     found_out(step_by_step, "| 11 3 4 |", "| 11 3 5 |");
+    found_out(step_by_step_on_demand, "| leave-inert | `v0` | `v1` |", "| leave-fun | `v0` | `v1` |");
     found_out(byte_by_byte, "| 29 | `02 00` |", "| 29 | `03 00` |");
     found_out(|text| header_table(text, "element", "glow_report"), "| 5 | `GLOW_LEAVE_FUN` |", "| 5 | `GLOW_LEAVE_INERT` |");
     found_out(|text| header_table(text, "status", "glow_exchange_status"), "| 3 | `GLOW_EXCHANGE_REFUSED` |", "| 2 | `GLOW_EXCHANGE_REFUSED` |");

@@ -189,10 +189,10 @@ fn step_name(step: Option<Step>) -> &'static str {
 
 const WORKED_FILE: &str = "examples/03-example-1.term";
 
-/// The states of a run of the first machine by the second implementation, as the manual's table has them.
-fn states(file: &[u8]) -> Vec<Vec<String>> {
+/// The states of a run by the second implementation, as the manual's tables have them.
+fn states(rules: Rules, file: &[u8]) -> Vec<Vec<String>> {
     let (mut all, mut before, mut last) = (Vec::new(), None, String::new());
-    evaluate_watched(Rules::First, file, GLOW_BUDGET, &Lengths::glow(), |m| {
+    evaluate_watched(rules, file, GLOW_BUDGET, &Lengths::glow(), |m| {
         let s = m.figures;
         let term = format!("`{}`", m.stands_for().text());
         let mut row = vec![step_name(before).to_string()];
@@ -205,9 +205,12 @@ fn states(file: &[u8]) -> Vec<Vec<String>> {
     all
 }
 
-pub fn step_by_step(text: &str) -> Checked {
-    let rows = table(text, &["step", "code", "stack", "dump", "environment", "taken", "stands for"])?.rows;
-    let right = states(&std::fs::read(root().join(WORKED_FILE)).unwrap());
+pub fn step_by_step(text: &str) -> Checked { steps(text, "step", Rules::First) }
+pub fn step_by_step_on_demand(text: &str) -> Checked { steps(text, "step on demand", Rules::OnDemand) }
+
+fn steps(text: &str, head: &str, rules: Rules) -> Checked {
+    let rows = table(text, &[head, "code", "stack", "dump", "environment", "taken", "stands for"])?.rows;
+    let right = states(rules, &std::fs::read(root().join(WORKED_FILE)).unwrap());
     for (row, state) in rows.iter().zip(&right) { same("the run step by step", row, state)?; }
     same("the states", rows.len(), right.len())?;
     Ok(rows.len())
@@ -226,4 +229,6 @@ pub fn byte_by_byte(text: &str) -> Checked {
 }
 
 #[test]
-fn the_worked_file() { assert_eq!((byte_by_byte(&manual()), step_by_step(&manual())), (Ok(12), Ok(11))); }
+fn the_worked_file() {
+    assert_eq!((byte_by_byte(&manual()), step_by_step(&manual()), step_by_step_on_demand(&manual())), (Ok(12), Ok(11), Ok(10)));
+}
