@@ -10,7 +10,7 @@ use lib.ListN.{length, replicate, length-replicate}
 use borrow.Author.Tests.{leb-true, leb-false}
 use Rattle.termfile.specs.Output.{overlay}
 use Rattle.machine.specs.declared.Machine.the-variants.{First}
-use Rattle.machine.specs.Program.{million, glow}
+use Rattle.machine.specs.Glow.{million, glow}
 use Rattle.evaluator.specs.Calling.{told}
 use Rattle.evaluator.specs.Promise.{Memory, storesIn, Called}
 use Rattle.evaluator.specs.declared.Answer.{Answer}

@@ -6,7 +6,7 @@ use mathlib.Core.List.{List}
 use lib.ListN.{length}
 use Rattle.termfile.specs.Output.{overlay}
 use Rattle.machine.specs.declared.Machine.the-variants.{First}
-use Rattle.machine.specs.Program.{million, glow}
+use Rattle.machine.specs.Glow.{million, glow}
 use Rattle.rendering.specs.Lines.{textOf}
 use Rattle.rendering.specs.Promise.{longestText}
 use Rattle.rendering.specs.declared.Rendered.{Rendered}

@@ -4,7 +4,7 @@
 use mathlib.Core.Path.{_≡_, refl}
 use Rattle.termfile.specs.File.{refusal}
 use Rattle.machine.specs.declared.Machine.the-variants.{First}
-use Rattle.machine.specs.Program.{million, glow}
+use Rattle.machine.specs.Glow.{million, glow}
 use Rattle.machine.proofs.Cases.{file-f}
 use Rattle.rendering.specs.Decimal.{decimal}
 use Rattle.rendering.specs.Lines.{ascii, countLines, textOf}
