@@ -74,6 +74,13 @@ cut-step m s ss e = go (leb (fileLength s) (length s)) (cut m (drop (fileLength 
     go true (some later) t u i = record { later = later; split = cc; fits = leb-true _ _ t; rest = u }
     go false o t u i = let z : _≡_ {A = ℕ} 0 1 = cc in absurd (omega arith)
 
+-- a cut has as many definitions as were asked for
+pub cut-length : (m : ℕ) (s : List ℕ) (ss : List (List ℕ)) → cut m s ≡ some ss → length ss ≡ m
+cut-length zero s ss e = ap length (cut-none s ss e)
+cut-length (suc m) s ss e =
+    let step = cut-step m s ss e in
+    ap length (step .split) ∙ ap suc (cut-length m (drop (fileLength s) s) (step .later) (step .rest))
+
 -- A pass over the definitions
 
 -- of d definitions those from place k on are ss, and start at byte `at`
