@@ -3,7 +3,7 @@
 use Prim.Native.Nat.{ℕ, _+_, _≤_, _<_}
 use mathlib.Core.Path.{_≡_, refl, sym, ap, ap₂, _∙_}
 use mathlib.Core.List.{List, map}
-use mathlib.Core.Option.{Option, none, some, Option·some-ne-none}
+use mathlib.Core.Option.{none}
 use native.Mathlib.Omega.{arith}
 use lib.Dec.{eqb}
 use lib.ListN.{length, getD, drop, length-drop}
@@ -14,13 +14,8 @@ use Rattle.termfile.specs.File.{word, freeNames, nodeCount, tags, codeOf, holds
 use Rattle.termfile.proofs.Acceptance.{accepted, nodes-code}
 use Rattle.termfile.proofs.Bytes.{tags-nodes}
 use Rattle.termfile.proofs.Frame.{tag-at}
-use Rattle.prelude.specs.Prelude.{fileLength, orElse, isAbstraction}
+use Rattle.prelude.specs.Prelude.{fileLength, isAbstraction}
 use Rattle.prelude.proofs.Files.{first, first-byte, first-names, first-count}
-
--- what comes after a refusal that is not met
-pub orElse-none : (o rest : Option ℕ) → orElse o rest ≡ none → (o ≡ none) × (rest ≡ none)
-orElse-none none rest e = (refl, e)
-orElse-none (some k) rest e = absurd (Option·some-ne-none k e)
 
 -- the first node of a code tells an abstraction
 write-head : (c : Code) → isAbstraction c ≡ eqb (getD (map (λ n. n .tag) (write c)) 0 0) 1

@@ -1,2 +1,4 @@
 pub mod Files
 pub mod Fields
+pub mod Refusals
+pub mod Told

@@ -14,7 +14,8 @@ use Rattle.termfile.specs.File.{refusal}
 use Rattle.prelude.specs.Prelude.{fileLength, definitionFiles, eachRefusal, allAbstractions}
 use Rattle.prelude.specs.Passes.{Cut}
 use Rattle.prelude.proofs.Files.{first, Left, Next, left-begin, left-next, left-end}
-use Rattle.prelude.proofs.Fields.{orElse-none, nodes-at, abstraction-at}
+use Rattle.prelude.proofs.Fields.{nodes-at, abstraction-at}
+use Rattle.prelude.proofs.Refusals.{orElse-none}
 use Rattle.prelude.proofs.heads.all_abstractions.Statement.{statement}
 use Rattle.prelude.proofs.heads.all_abstractions.Tie as tie
 
