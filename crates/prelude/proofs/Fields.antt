@@ -1,16 +1,16 @@
 -- What the head of a definition says: its f field, and whether it is an abstraction.
 -- Assumes nothing.
-use Prim.Native.Nat.{ℕ, _+_, _≤_, _<_}
+use Prim.Native.Nat.{ℕ, _+_, _≤_}
 use mathlib.Core.Path.{_≡_, refl, sym, ap, ap₂, _∙_}
 use mathlib.Core.List.{List, map}
 use mathlib.Core.Option.{none}
 use native.Mathlib.Omega.{arith}
 use lib.Dec.{eqb}
-use lib.ListN.{length, getD, drop, length-drop}
+use lib.ListN.{length, getD, drop}
 use lib.Seq.{getD-drop}
 use Rattle.termfile.specs.Code.{Code, var, abs, app}
 use Rattle.termfile.specs.Nodes.{write}
-use Rattle.termfile.specs.File.{word, freeNames, nodeCount, tags, codeOf, holds, refusal}
+use Rattle.termfile.specs.File.{word, freeNames, nodeCount, codeOf, holds, refusal}
 use Rattle.termfile.proofs.Acceptance.{accepted, nodes-code}
 use Rattle.termfile.proofs.Bytes.{tags-nodes}
 use Rattle.termfile.proofs.Frame.{tag-at}

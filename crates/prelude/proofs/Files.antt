@@ -3,7 +3,7 @@
 -- Assumes nothing.
 use Prim.Native.Nat.{ℕ, zero, suc, _+_, _*_, _-_, _≤_, _<_}
 use mathlib.Core.Path.{_≡_, refl, sym, ap, ap₂, subst, _∙_}
-use mathlib.Core.Bool.{Bool, true, false, cond}
+use mathlib.Core.Bool.{Bool, true, false, cond, false≢true}
 use mathlib.Core.List.{List, [], _∷_}
 use mathlib.Core.Option.{Option, none, some}
 use native.Mathlib.Omega.{arith}
@@ -74,6 +74,10 @@ cut-step m s ss e = go (leb (fileLength s) (length s)) (cut m (drop (fileLength 
     go true (some later) t u i = record { later = later; split = cc; fits = leb-true _ _ t; rest = u }
     go false o t u i = let z : _≡_ {A = ℕ} 0 1 = cc in absurd (omega arith)
 
+pub cut-listed : (o : Option (List (List ℕ))) → areCut o ≡ true → o ≡ some (listed o)
+cut-listed none e = absurd (false≢true e)
+cut-listed (some ss) e = refl
+
 -- a cut has as many definitions as were asked for
 pub cut-length : (m : ℕ) (s : List ℕ) (ss : List (List ℕ)) → cut m s ≡ some ss → length ss ≡ m
 cut-length zero s ss e = ap length (cut-none s ss e)
@@ -103,12 +107,8 @@ left-begin {p} {d} h =
     record {
       few = omega arith;
       inside = h .long;
-      are = subst (λ m. cut m (drop 2 p) ≡ some (definitionFiles p)) all (is-listed (files p) (h .whole));
+      are = subst (λ m. cut m (drop 2 p) ≡ some (definitionFiles p)) all (cut-listed (files p) (h .whole));
     }
-  where
-    is-listed : (o : Option (List (List ℕ))) → areCut o ≡ true → o ≡ some (listed o)
-    is-listed none e = let z : _≡_ {A = ℕ} 0 1 = cc in absurd (omega arith)
-    is-listed (some ss) e = refl
 
 module _ {p : List ℕ} {d k at : ℕ} {ss : List (List ℕ)} (h : Left p d k at ss) where
   pub left-next : k < d → Next p d k at ss

@@ -3,7 +3,7 @@ use Prim.Native.Nat.{ℕ}
 use mathlib.Core.List.{List}
 use mathlib.Core.Option.{Option, none, some}
 use Rattle.termfile.specs.Answer as termfile
-use Rattle.prelude.specs.Prelude.{definitionFiles, preludeRefusal, sums}
+use Rattle.prelude.specs.Prelude.{definitionFiles, eachRefusal, preludeRefusal, sums}
 use Rattle.prelude.specs.declared.Sums.{Sums}
 use Rattle.prelude.specs.declared.Checked.{Checked}
 use Rattle.prelude.specs.declared.Checked.the-variants.{Accepted, Refused}
@@ -22,6 +22,10 @@ answered none m = accepted m
 -- 02, request 6: the answer for each byte string, beside a term with f free names
 abbrev pub answer : ℕ → List ℕ → Answer
 answer f p = answered (preludeRefusal f p) (sums (definitionFiles p))
+
+-- what the definitions' own refusals alone say
+abbrev pub answerOfEach : List (List ℕ) → Answer
+answerOfEach ss = answered (eachRefusal ss) (sums ss)
 
 -- 02, request 6: the number of each case; a definition's refusal has its own
 abbrev pub number : Refusal → ℕ

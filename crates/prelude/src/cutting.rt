@@ -26,11 +26,12 @@ pub fn is_cut(prelude: &[u8], d: usize) -> bool
     let mut k = 0;
     while k < d {
         k += 1;
-        if prelude.len() - at < 4 {
+        let left = prelude.len() - at;
+        if left < 4 {
             return false;
         }
         let length = file_length(prelude, at);
-        if prelude.len() - at < length {
+        if left < length {
             return false;
         }
         at += length;

@@ -4,14 +4,14 @@ use crate::Refusal;
 use crate::Sums;
 use crate::cutting::file_length;
 ghost use mathlib.Core.Path.{_≡_};
-ghost use Rattle.prelude.specs.Answer.{answered, told};
+ghost use Rattle.prelude.specs.Answer.{answerOfEach, told};
 ghost use Rattle.prelude.specs.Passes.{Cut};
-ghost use Rattle.prelude.specs.Prelude.{definitionFiles, eachRefusal, sums};
+ghost use Rattle.prelude.specs.Prelude.{definitionFiles};
 
 // The first definition's refusal that there is, or the sums of the definitions' counts.
 pub fn check_each(prelude: &[u8], d: usize) -> Checked
     requires { ⌜ Cut (now prelude) d ⌝ }
-    ensures { λ r. ⌜ told r ≡ answered (eachRefusal (definitionFiles (now (prelude .entry)))) (sums (definitionFiles (now (prelude .entry)))) ⌝ }
+    ensures { λ r. ⌜ told r ≡ answerOfEach (definitionFiles (now (prelude .entry))) ⌝ }
 {
     // The first k definitions end at byte `at`; each is a term file, and the sums are theirs.
     let mut nodes = 0;

@@ -16,11 +16,11 @@ pub fn all_abstractions(prelude: &[u8], d: usize) -> bool
     let mut at = 2;
     let mut k = 0;
     while k < d {
+        k += 1;
         if prelude[at + 4] != 1 {
             return false;
         }
         at += file_length(prelude, at);
-        k += 1;
     }
     true
 }
@@ -34,11 +34,12 @@ pub fn all_in_place(prelude: &[u8], d: usize) -> bool
     let mut at = 2;
     let mut k = 0;
     while k < d {
-        if word(prelude[at], prelude[at + 1]) != k {
+        let place = k;
+        k += 1;
+        if word(prelude[at], prelude[at + 1]) != place {
             return false;
         }
         at += file_length(prelude, at);
-        k += 1;
     }
     true
 }

@@ -1,13 +1,13 @@
 // The prelude: whether a byte string is one, for a term with a given count of free names. `check` takes
 // any byte string and any count, and promises the answer that request 6 of paper 02 gives for them:
 // the sums over the definitions, or the first refusal that is met. It writes to nothing that is lent
-// to it, and takes time linear in the prelude. Refused are, in this order, each over all definitions
+// to it, and takes time linear in the prelude. Refused are, each line tested over all definitions
 // before the next:
 //
-//   17 Cut                       more definitions than free names, or bytes left over or missing
-//   2 and 4 to 7 Definition      the first definition that is not a term file has this refusal
-//   18 NotAbstraction            a definition that is not an abstraction
-//   19 Place                     a definition whose f field is not its place
+//   17 Cut                    more definitions than free names, or bytes left over or missing
+//   2, 4 to 7 Definition      a definition that is not a term file; the first such tells its refusal
+//   18 NotAbstraction         a definition that is not an abstraction
+//   19 Place                  a definition whose f field is not its place
 mod cutting;
 mod definitions;
 mod heads;

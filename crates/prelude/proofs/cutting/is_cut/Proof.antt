@@ -61,17 +61,14 @@ loop-holds c = begin (c .before .pre .0) (c .before .pre .1)
 add-k : tie.Need-add-k Inv-loop μ-loop
 add-k c = omega arith
 
-sub-if1 : tie.Need-sub-if1 Inv-loop μ-loop
-sub-if1 c = omega arith
+sub-left : tie.Need-sub-left Inv-loop μ-loop
+sub-left c = omega arith
 
 returns : tie.Need-returns Inv-loop μ-loop
 returns c = missing (c .before .before .loop .inv) (c .before .loop-test .taken) (omega arith)
 
 file-length-requires : tie.Need-file-length-requires Inv-loop μ-loop
 file-length-requires c κs = omega arith
-
-sub-if2 : tie.Need-sub-if2 Inv-loop μ-loop
-sub-if2 c = omega arith
 
 returns-2 : tie.Need-returns-2 Inv-loop μ-loop
 returns-2 c =
@@ -99,10 +96,9 @@ is-cut-spec =
     μ-loop
     loop-holds
     add-k
-    sub-if1
+    sub-left
     returns
     file-length-requires
-    sub-if2
     returns-2
     add-at
     loop-less

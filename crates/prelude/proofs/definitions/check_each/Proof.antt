@@ -2,19 +2,18 @@
 -- sum is what has been added up and the sum over these. The measure is the number of these.
 -- Assumes nothing.
 use Prim.Native.Nat.{ℕ, _+_, _*_, _-_, _≤_, _<_}
-use mathlib.Core.Path.{_≡_, refl, sym, ap, subst, _∙_}
+use mathlib.Core.Path.{_≡_, refl, sym, ap, _∙_}
 use mathlib.Core.List.{List, [], _∷_}
-use mathlib.Core.Option.{Option, none, some}
+use mathlib.Core.Option.{none, some}
 use native.Mathlib.Omega.{arith}
 use borrow.Author.Needs.{needs}
 use lib.ListN.{length, take, drop}
-use Rattle.termfile.specs.File.{nodeCount, tags, count, counts, refusal}
+use Rattle.termfile.specs.File.{nodeCount, tags, count, refusal}
 use Rattle.termfile.specs.Answer as termfile
 use Rattle.termfile.specs.declared.Counts.{Counts}
 use Rattle.termfile.proofs.Told.{file-refused, file-accepted}
 use Rattle.termfile.proofs.Acceptance.{accepted, count-few}
 use Rattle.prelude.specs.Prelude.{fileLength, definitionFiles, orElse, eachRefusal, total, sums}
-use Rattle.prelude.specs.Answer.{answered, told}
 use Rattle.prelude.specs.Passes.{Cut}
 use Rattle.prelude.proofs.Files.{first, Left, Next, left-begin, left-next, left-end, cut-length}
 use Rattle.prelude.proofs.definitions.check_each.Statement.{statement}

@@ -69,6 +69,9 @@ abbrev μ-loop : tie.MeasureT-loop
 loop-holds : tie.Need-loop-holds Inv-loop μ-loop
 loop-holds c = begin (c .before .pre .0) (c .before .pre .1)
 
+add-k : tie.Need-add-k Inv-loop μ-loop
+add-k c = omega arith
+
 add-if1 : tie.Need-add-if1 Inv-loop μ-loop
 add-if1 c = omega (arith, enough (c .before .loop .inv) (c .loop-test .taken))
 
@@ -90,9 +93,6 @@ add-at c =
     let at = c .before .before .before in
     omega (arith, following (at .before .loop .inv) (at .loop-test .taken) .end, c .file-length .ensures)
 
-add-k : tie.Need-add-k Inv-loop μ-loop
-add-k c = omega arith
-
 loop-less : tie.Need-loop-less Inv-loop μ-loop
 loop-less c = omega arith
 
@@ -111,12 +111,12 @@ all-abstractions-spec =
     Inv-loop
     μ-loop
     loop-holds
+    add-k
     add-if1
     shared-slice-read-if1
     returns
     file-length-requires
     add-at
-    add-k
     loop-less
     loop-again
     returns-2)

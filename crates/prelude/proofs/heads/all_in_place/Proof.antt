@@ -63,6 +63,9 @@ abbrev μ-loop : tie.MeasureT-loop
 loop-holds : tie.Need-loop-holds Inv-loop μ-loop
 loop-holds c = begin (c .before .pre)
 
+add-k : tie.Need-add-k Inv-loop μ-loop
+add-k c = omega arith
+
 shared-slice-read-word : tie.Need-shared-slice-read-word Inv-loop μ-loop
 shared-slice-read-word c = omega (arith, enough (c .before .before .loop .inv) (c .before .loop-test .taken))
 
@@ -90,9 +93,6 @@ add-at c =
     let at = c .before .before .before .before .before in
     omega (arith, enough (at .before .loop .inv) (at .loop-test .taken), c .file-length .ensures)
 
-add-k : tie.Need-add-k Inv-loop μ-loop
-add-k c = omega arith
-
 loop-less : tie.Need-loop-less Inv-loop μ-loop
 loop-less c = omega arith
 
@@ -112,6 +112,7 @@ all-in-place-spec =
     Inv-loop
     μ-loop
     loop-holds
+    add-k
     shared-slice-read-word
     add-word
     shared-slice-read-word-2
@@ -119,7 +120,6 @@ all-in-place-spec =
     returns
     file-length-requires
     add-at
-    add-k
     loop-less
     loop-again
     returns-2)
