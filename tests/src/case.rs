@@ -1,10 +1,13 @@
 //! One case, on one of the two machines: the second implementation's answer, and the library's compared with it field by field
 //! and array by array, with sentinels before and after every lent slice.
-use crate::machine::{evaluate, Answer, Lengths, Rules};
+use crate::machine::{evaluate_with, Answer, Lengths, Rules};
+use crate::prelude;
 
 #[derive(Clone, Debug)]
 pub struct Case<'a> {
     pub rules: Rules,
+    /// for the library's call with a prelude; none for the one without
+    pub prelude: Option<&'a [u8]>,
     pub file: &'a [u8],
     pub budget: u32,
     pub lengths: Lengths,
@@ -16,21 +19,22 @@ pub struct Case<'a> {
 }
 
 impl<'a> Case<'a> {
-    pub fn new(rules: Rules, file: &'a [u8], budget: u32, lengths: Lengths) -> Case<'a> { Case { rules, file, budget, lengths, garbage: 7, report_len: 12, nulls: false } }
+    pub fn new(rules: Rules, file: &'a [u8], budget: u32, lengths: Lengths) -> Case<'a> { Case { rules, prelude: None, file, budget, lengths, garbage: 7, report_len: 12, nulls: false } }
     pub fn glow(rules: Rules, file: &'a [u8]) -> Case<'a> { Case { garbage: 0, ..Case::new(rules, file, crate::machine::GLOW_BUDGET, Lengths::glow()) } }
     pub fn garbage(mut self, g: u64) -> Self { self.garbage = g; self }
     pub fn nulls(mut self) -> Self { self.nulls = true; self }
+    pub fn with(mut self, prelude: &'a [u8]) -> Self { self.prelude = Some(prelude); self }
     /// The second implementation's answer, after the library's has been compared with it. Panics on a difference.
     pub fn check(&self) -> Answer {
-        let answer = evaluate(self.rules, self.file, self.budget, &self.lengths);
+        let answer = evaluate_with(self.rules, self.prelude.unwrap_or(prelude::NONE), self.file, self.budget, &self.lengths);
         self.check_against(&answer);
         answer
     }
     pub fn check_against(&self, answer: &Answer) {
         if let Err(why) = compare(self, answer) {
-            let shown: Vec<String> = self.file.iter().take(400).map(|b| format!("{b:02x}")).collect();
-            panic!("DISAGREEMENT: {why}\n machine {:?} budget {} lengths {:?} garbage {} report_len {} nulls {}\n second implementation: {}\n file ({} bytes): {}",
-                self.rules, self.budget, self.lengths, self.garbage, self.report_len, self.nulls, crate::machine::printed(answer), self.file.len(), shown.join(" "));
+            let shown = |bytes: &[u8]| format!("({} bytes): {}", bytes.len(), bytes.iter().take(400).map(|b| format!("{b:02x}")).collect::<Vec<_>>().join(" "));
+            panic!("DISAGREEMENT: {why}\n machine {:?} budget {} lengths {:?} garbage {} report_len {} nulls {}\n second implementation: {}\n file {}\n prelude {}",
+                self.rules, self.budget, self.lengths, self.garbage, self.report_len, self.nulls, crate::machine::printed(answer), shown(self.file), self.prelude.map_or("none".into(), shown));
         }
     }
 }
@@ -56,7 +60,7 @@ pub use library::*;
 #[cfg(feature = "library")]
 mod library {
     use super::*;
-    use crate::machine::{Outcome, GLOW_BUDGET};
+    use crate::machine::{evaluate, Outcome, GLOW_BUDGET};
     use crate::prng::Prng;
 
     const GUARD: usize = 8;
@@ -104,7 +108,7 @@ mod library {
     /// The status of the C function, called with any number for a machine and a null pointer for an array of length 0, as C programs may.
     #[allow(clippy::too_many_arguments)]
     fn with_nulls(
-        machine: u32, file: &[u8], budget: u32, tags: &mut [u8], args: &mut [u16], codes: &mut [u16], owns: &mut [u16], nexts: &mut [u16], places: &mut [u16],
+        machine: u32, prelude: Option<&[u8]>, file: &[u8], budget: u32, tags: &mut [u8], args: &mut [u16], codes: &mut [u16], owns: &mut [u16], nexts: &mut [u16], places: &mut [u16],
         renumber: &mut [u16], out_tags: &mut [u8], out_args: &mut [u16], report: &mut [u64],
     ) -> u32 {
         extern "C" {
@@ -114,16 +118,31 @@ mod library {
                 places: *mut u16, places_len: usize, renumber: *mut u16, renumber_len: usize,
                 out_tags: *mut u8, out_tags_len: usize, out_args: *mut u16, out_args_len: usize, report: *mut u64, report_len: usize,
             ) -> u32;
+            fn glow_evaluate_with(
+                machine: u32, prelude: *const u8, prelude_len: usize, file: *const u8, file_len: usize, budget: u32, tags: *mut u8, tags_len: usize, args: *mut u16, args_len: usize,
+                codes: *mut u16, codes_len: usize, owns: *mut u16, owns_len: usize, nexts: *mut u16, nexts_len: usize,
+                places: *mut u16, places_len: usize, renumber: *mut u16, renumber_len: usize,
+                out_tags: *mut u8, out_tags_len: usize, out_args: *mut u16, out_args_len: usize, report: *mut u64, report_len: usize,
+            ) -> u32;
         }
         fn start<T>(s: &mut [T]) -> *mut T { if s.is_empty() { std::ptr::null_mut() } else { s.as_mut_ptr() } }
+        fn given(s: &[u8]) -> *const u8 { if s.is_empty() { std::ptr::null() } else { s.as_ptr() } }
         // SAFETY: each pointer is to a slice that is borrowed alone, as long as is said, or is null with the length 0, which glow.h allows.
         unsafe {
-            glow_evaluate(
-                machine, if file.is_empty() { std::ptr::null() } else { file.as_ptr() }, file.len(), budget, start(tags), tags.len(), start(args), args.len(),
-                start(codes), codes.len(), start(owns), owns.len(), start(nexts), nexts.len(),
-                start(places), places.len(), start(renumber), renumber.len(),
-                start(out_tags), out_tags.len(), start(out_args), out_args.len(), start(report), report.len(),
-            )
+            match prelude {
+                None => glow_evaluate(
+                    machine, given(file), file.len(), budget, start(tags), tags.len(), start(args), args.len(),
+                    start(codes), codes.len(), start(owns), owns.len(), start(nexts), nexts.len(),
+                    start(places), places.len(), start(renumber), renumber.len(),
+                    start(out_tags), out_tags.len(), start(out_args), out_args.len(), start(report), report.len(),
+                ),
+                Some(prelude) => glow_evaluate_with(
+                    machine, given(prelude), prelude.len(), given(file), file.len(), budget, start(tags), tags.len(), start(args), args.len(),
+                    start(codes), codes.len(), start(owns), owns.len(), start(nexts), nexts.len(),
+                    start(places), places.len(), start(renumber), renumber.len(),
+                    start(out_tags), out_tags.len(), start(out_args), out_args.len(), start(report), report.len(),
+                ),
+            }
         }
     }
 
@@ -157,6 +176,11 @@ mod library {
                 subst_allowance: r.subst_allowance, shift_allowance: r.shift_allowance,
             }),
         }
+    }
+
+    /// The same of a call with a prelude.
+    pub fn told_with(f: usize, a: Result<glow::Answer, glow::PreludeRefusal>) -> Answer {
+        match a { Ok(a) => told(f, a), Err(why) => Answer::FileRefused(why.number()) }
     }
 
     /// A call that needs much stack, and its answer.
@@ -223,17 +247,20 @@ mod library {
             }
         }
 
-        /// The status of a call, by the wrapper unless it could not make it. Neither the file nor anything outside of the arrays may change.
+        /// The status of a call, by the wrapper unless it could not make it. Neither the file nor the prelude nor anything outside of the arrays
+        /// may change.
         fn call(&mut self, case: &Case, machine: u32) -> Result<u32, String> {
-            let file = case.file.to_vec();
+            let given = (case.prelude.map(<[u8]>::to_vec), case.file.to_vec());
             let (tags, args, codes, owns, nexts) = (self.tags.slice(), self.args.slice(), self.codes.slice(), self.owns.slice(), self.nexts.slice());
             let (places, renumber, out_tags, out_args, report) = (self.places.slice(), self.renumber.slice(), self.out_tags.slice(), self.out_args.slice(), self.report.slice());
             let status = if case.nulls || machine != case.rules.number() {
-                with_nulls(machine, case.file, case.budget, tags, args, codes, owns, nexts, places, renumber, out_tags, out_args, report)
+                with_nulls(machine, case.prelude, case.file, case.budget, tags, args, codes, owns, nexts, places, renumber, out_tags, out_args, report)
+            } else if let Some(prelude) = case.prelude {
+                number(glow::evaluate_with_in_on_this_stack(case.rules.into(), prelude, case.file, case.budget, tags, args, codes, owns, nexts, places, renumber, out_tags, out_args, report))
             } else {
                 number(glow::evaluate_in_on_this_stack(case.rules.into(), case.file, case.budget, tags, args, codes, owns, nexts, places, renumber, out_tags, out_args, report))
             };
-            if file != case.file { return Err("the file was changed".into()); }
+            if given != (case.prelude.map(<[u8]>::to_vec), case.file.to_vec()) { return Err("the file or the prelude was changed".into()); }
             self.tags.ends()?; self.args.ends()?; self.codes.ends()?; self.owns.ends()?; self.nexts.ends()?; self.places.ends()?;
             self.renumber.ends()?; self.out_tags.ends()?; self.out_args.ends()?; self.report.ends()?;
             Ok(status)

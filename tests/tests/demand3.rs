@@ -156,7 +156,7 @@ fn random_terms() {
 fn a_weakened_rule_meets_a_chain() {
     use Step::*;
     let file = from_text(1, "a7 l1 a4 l2 a1 v2 v0 v1 l3 v3").file();
-    let mut m = Machine::start(Rules::First, &check(&file).unwrap());
+    let mut m = Machine::start(Rules::First, &check(&file).unwrap(), &[]);
     for (fits, made) in [(Enter, Enter), (LeaveFun, LeaveFun), (Beta, Beta), (Enter, Enter), (Subst, LeaveInert), (Beta, Beta), (Enter, Enter), (LeaveInert, LeaveInert)] {
         assert!(m.fits() == Some(fits) && !m.consults_chain());
         m.make_step(made);
