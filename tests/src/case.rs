@@ -60,7 +60,7 @@ pub use library::*;
 #[cfg(feature = "library")]
 mod library {
     use super::*;
-    use crate::machine::{evaluate, Outcome, GLOW_BUDGET};
+    use crate::machine::{Outcome, GLOW_BUDGET};
     use crate::prng::Prng;
 
     const GUARD: usize = 8;
@@ -184,42 +184,53 @@ mod library {
     }
 
     /// A call that needs much stack, and its answer.
-    struct DeepCall { rules: Rules, f: usize, file: Vec<u8>, lengths: Lengths, answer: Answer }
+    struct DeepCall { rules: Rules, prelude: Option<Vec<u8>>, f: usize, file: Vec<u8>, lengths: Lengths, answer: Answer }
 
     /// On each machine the deepest terms for glow's stores and for the largest, and on the first, where it is one of entries, a long chain
-    /// of renamings.
+    /// of renamings. With a prelude a chain of definitions, for which no cell is lent.
     fn all_deep_calls() -> Vec<DeepCall> {
-        use crate::families::{abstraction_chain, longest_copied_abstraction_chain, renamings};
+        use crate::families::{abstraction_chain, definition_chain, longest_copied_abstraction_chain, renamings};
+        use crate::flat::{canonical, v};
         use crate::machine::BOTH;
         let terms = [
-            (&BOTH[..1], 1, renamings(5461), Lengths::glow()),
-            (&BOTH[..], 0, abstraction_chain(4095), Lengths::glow()),
-            (&BOTH[..], 0, longest_copied_abstraction_chain(32_768), Lengths::largest()),
-            (&BOTH[..], 0, abstraction_chain(1), Lengths::of(6, 1, 3, 3, 3)),
+            (&BOTH[..1], None, 1, renamings(5461), Lengths::glow()),
+            (&BOTH[..], None, 0, abstraction_chain(4095), Lengths::glow()),
+            (&BOTH[..], None, 0, longest_copied_abstraction_chain(32_768), Lengths::largest()),
+            (&BOTH[..], None, 0, abstraction_chain(1), Lengths::of(6, 1, 3, 3, 3)),
+            (&BOTH[..], Some(definition_chain(5461)), 5461, v(5460), Lengths::of(32_768, 0, 32_768, 32_768, 16_384)),
         ];
         let mut calls = Vec::new();
-        for (machines, f, term, lengths) in terms {
-            let file = crate::flat::canonical(f, &term).file();
+        for (machines, definitions, f, term, lengths) in terms {
+            let prelude = definitions.map(|all| prelude::encode(&all.iter().enumerate().map(|(k, t)| canonical(k, t).file()).collect::<Vec<_>>()));
+            let file = canonical(f, &term).file();
             for &rules in machines {
-                let answer = evaluate(rules, &file, GLOW_BUDGET, &lengths);
+                let answer = evaluate_with(rules, prelude.as_deref().unwrap_or(prelude::NONE), &file, GLOW_BUDGET, &lengths);
                 assert!(matches!(answer.run().outcome, Outcome::Normal(_)));
-                calls.push(DeepCall { rules, f, file: file.clone(), lengths, answer });
+                calls.push(DeepCall { rules, prelude: prelude.clone(), f, file: file.clone(), lengths, answer });
             }
         }
         calls
     }
 
-    /// Calls of the wrapper's `evaluate` that need much stack, for `tests/threads.rs` to make on small ones. Each answer is compared.
+    /// Calls of the wrapper's `evaluate` and `evaluate_with` that need much stack, for `tests/threads.rs` to make on small ones. Each answer is compared.
     pub fn deep_calls() {
         static CALLS: std::sync::OnceLock<Vec<DeepCall>> = std::sync::OnceLock::new();
-        for DeepCall { rules, f, file, lengths: l, answer } in CALLS.get_or_init(all_deep_calls) {
+        for DeepCall { rules, prelude, f, file, lengths: l, answer } in CALLS.get_or_init(all_deep_calls) {
             let machine = glow::Machine::from(*rules);
             let mut stores = glow::Stores::new(l.tags, l.codes, l.places, l.renumber, l.out_tags);
-            assert_eq!(&told(*f, stores.evaluate(machine, file, GLOW_BUDGET)), answer);
+            let said = match prelude {
+                None => told(*f, stores.evaluate(machine, file, GLOW_BUDGET)),
+                Some(prelude) => told_with(*f, stores.evaluate_with(machine, prelude, file, GLOW_BUDGET)),
+            };
+            assert_eq!(&said, answer);
             let s = &mut stores;
             let mut report = [0; 12];
-            let status = glow::evaluate_in(machine, file, GLOW_BUDGET, &mut s.tags, &mut s.args, &mut s.codes, &mut s.owns, &mut s.nexts, &mut s.places,
-                &mut s.renumber, &mut s.out_tags, &mut s.out_args, &mut report);
+            let status = match prelude {
+                None => glow::evaluate_in(machine, file, GLOW_BUDGET, &mut s.tags, &mut s.args, &mut s.codes, &mut s.owns, &mut s.nexts, &mut s.places,
+                    &mut s.renumber, &mut s.out_tags, &mut s.out_args, &mut report),
+                Some(prelude) => glow::evaluate_with_in(machine, prelude, file, GLOW_BUDGET, &mut s.tags, &mut s.args, &mut s.codes, &mut s.owns, &mut s.nexts, &mut s.places,
+                    &mut s.renumber, &mut s.out_tags, &mut s.out_args, &mut report),
+            };
             assert_eq!((status, report[2], report[3]), (glow::Status::Normal, answer.run().counts.beta, answer.run().counts.subst));
         }
     }

@@ -92,7 +92,9 @@ fn on_eight_mebibytes() {
         let s = Subject::of(f, &definitions, &term);
         let plain = s.put_in();
         for (rules, kind) in BOTH.into_iter().zip(kinds) {
-            for (which, lengths) in [("glow's stores", Lengths::glow()), ("largest stores", Lengths::largest())] {
+            let taken = evaluate_with(rules, &s.prelude, &s.file, GLOW_BUDGET, &Lengths::largest()).run().figures.nodes as usize;
+            let largest = Lengths::largest();
+            for (which, lengths) in [("glow's stores", Lengths::glow()), ("largest stores", largest), ("no cells", Lengths { owns: 0, ..largest }), ("nodes just so", Lengths { args: taken, ..largest })] {
                 let answer = evaluate_with(rules, &s.prelude, &s.file, GLOW_BUDGET, &lengths);
                 let run = answer.run();
                 if which == "largest stores" { assert_eq!(answer.kind(), kind, "{name}, {rules:?}: {:?}", run.figures); }

@@ -130,7 +130,7 @@ fn cut_anywhere() {
         let mut p = s.prelude.clone();
         p[1] = 1;
         refused(&p, &s.file, 17);
-        // n one more or one less, in the first definition and in the last
+        // n of the first definition one more or one less
         for change in [1, u16::MAX] {
             let mut p = s.prelude.clone();
             let n = u16::from_le_bytes([p[4], p[5]]).wrapping_add(change);
