@@ -2,7 +2,7 @@
 //! put in where a file holds it, and no more stack than is told.
 use crate::{agree, Subject};
 use glow_tests::case::{Case, LIBRARY};
-use glow_tests::families::{delta, id, left_nested, nested_abstractions, right_nested};
+use glow_tests::families::{abstraction_chain, delta, id, left_nested, nested_abstractions, right_nested};
 use glow_tests::flat::*;
 use glow_tests::machine::*;
 use glow_tests::painted::on_stack;
@@ -23,6 +23,15 @@ fn last_of(definitions: Vec<Flat>) -> (usize, Vec<Flat>, Flat) { let d = definit
 fn applied(definitions: Vec<Flat>, term: impl FnOnce(Flat, Flat) -> Flat) -> (usize, Vec<Flat>, Flat) {
     let d = definitions.len();
     (d + 1, definitions, term(v(d as u32 - 1), v(d as u32)))
+}
+
+/// So many abstractions that are written from entries, and inside them the last definition.
+fn behind_entries(n: usize, definitions: Vec<Flat>) -> (usize, Vec<Flat>, Flat) {
+    let (f, definitions, last) = last_of(definitions);
+    let mut term = abstraction_chain(n);
+    term.truncate(4 * n);
+    term.extend(last);
+    (f, definitions, term)
 }
 
 /// With the largest stores: the outcome on the first machine and on demand, 0 for normal and 14 for spent.
@@ -52,8 +61,15 @@ fn shapes() -> Vec<Shape> {
         ("3276 heads, and an identity behind each name", last_of(chain(id(), 3277, |t| l(X, a(t, l(Z, v(Z)))))), [0, 0]),
         ("4095 right parts by their names", last_of(chain(id(), 4096, |t| l(X, a(v(X), t)))), [0, 0]),
         ("999 heads with seven arguments", last_of(chain(id(), 1000, seven)), [0, 0]),
+        ("100 heads by their names", last_of(chain(id(), 101, head)), [0, 0]),
+        ("1000 heads by their names", last_of(chain(id(), 1001, head)), [0, 0]),
+        ("100 abstractions by their names", last_of(chain(id(), 100, constant)), [0, 0]),
+        ("1000 abstractions by their names", last_of(chain(id(), 1000, constant)), [0, 0]),
+        ("heads and constants by turns", last_of(std::iter::once(id()).chain((1..8000u32).map(|k| if k % 2 == 0 { head(v(k - 1)) } else { constant(v(k - 1)) })).collect()), [0, 0]),
         // a chain below abstractions and beside applications of the term
         ("heads below an abstraction of the term", applied(chain(id(), 5400, head), |t, y| l(X, a(t, y))), [0, 0]),
+        ("2000 abstractions behind entries, and then 3000 heads", behind_entries(2000, chain(id(), 3001, head)), [0, 0]),
+        ("4000 abstractions behind entries, and then 4000 abstractions by their names", behind_entries(4000, chain(id(), 4000, constant)), [0, 0]),
         ("heads passed to y twice", applied(chain(id(), 2700, head), |t, y| apply(y, [t.clone(), t])), [0, 0]),
         ("2000 definitions in a row, passed to y", (2001, chain(id(), 2000, |_| id()), apply(v(2000), (0..2000).map(v))), [0, 0]),
         ("one definition passed to y 4000 times", (2, vec![l(X, id())], apply(v(1), vec![v(0); 4000])), [0, 0]),
@@ -65,6 +81,7 @@ fn shapes() -> Vec<Shape> {
         ("13 doubled", last_of(chain(id(), 14, twice)), [12, 12]),
         ("60 doubled", last_of(chain(id(), 61, twice)), [12, 12]),
         ("7999 doubled", last_of(chain(id(), 8000, twice)), [12, 12]),
+        ("60 doubled, and dropped", applied(chain(id(), 61, twice), |t, y| a(l(X, y), t)), [0, 0]),
         // run, not only written
         ("999 calls of the one before", applied(chain(id(), 1000, head), a), [0, 0]),
         ("3199 calls of the one before", applied(chain(id(), 3200, head), a), [0, 0]),
@@ -88,6 +105,7 @@ fn shapes() -> Vec<Shape> {
 fn on_eight_mebibytes() {
     let none = on_stack(8 << 20, || {});
     let mut deepest = (0, String::new());
+    let mut agreed = 0;
     for (name, (f, definitions, term), kinds) in shapes() {
         let s = Subject::of(f, &definitions, &term);
         let plain = s.put_in();
@@ -98,7 +116,7 @@ fn on_eight_mebibytes() {
                 let answer = evaluate_with(rules, &s.prelude, &s.file, GLOW_BUDGET, &lengths);
                 let run = answer.run();
                 if which == "largest stores" { assert_eq!(answer.kind(), kind, "{name}, {rules:?}: {:?}", run.figures); }
-                if let Some(file) = &plain { agree(&answer, &evaluate(rules, file, GLOW_BUDGET, &lengths)); }
+                if let Some(file) = &plain { agreed += usize::from(agree(&answer, &evaluate(rules, file, GLOW_BUDGET, &lengths))); }
                 let used = library_use(rules, &s, &lengths);
                 on_stack(8 << 20, || Case::new(rules, &s.file, GLOW_BUDGET, lengths).with(&s.prelude).garbage(11).check_against(&answer));
                 println!("{name}, {which}, {rules:?}: {}; steps {} store {} {} {}; stack {}", answer.kind(), run.counts.steps(), run.figures.nodes, run.figures.cells, run.figures.names,
@@ -111,6 +129,8 @@ fn on_eight_mebibytes() {
             }
         }
     }
+    println!("{agreed} runs beside that of the term with the definitions put in");
+    assert!(agreed > 100);
     if LIBRARY { println!("deepest use of the stack by the library: {} bytes at {}", deepest.0.saturating_sub(none), deepest.1); }
 }
 
