@@ -128,7 +128,7 @@ pub fn damage_prelude(r: &mut Prng, prelude: &mut Vec<u8>) {
             (4, Some(at)) => prelude[at] = prelude[at].wrapping_add([1, 255, 64][r.below(3)]),
             (5, Some(at)) => { let k = at + 1 + r.below(3); prelude[k] = r.next() as u8; }
             // one definition is the free name 0, which is no abstraction, or a function with another f, or is damaged as a file may be
-            (6 | 7 | 8, Some(at)) | (9 | 10, Some(at)) => {
+            (6..=10, Some(at)) => {
                 let end = (at + 4 + 3 * u16::from_le_bytes([prelude[at + 2], prelude[at + 3]]) as usize).min(prelude.len());
                 let mut bytes = prelude[at..end].to_vec();
                 match r.below(3) {

@@ -164,7 +164,7 @@ fn small_definitions() {
             let mut these: Vec<Vec<Flat>> = vec![vec![]];
             for (k, &nodes) in nodes.iter().enumerate() {
                 let next: Vec<Flat> = (2..=nodes).flat_map(|n| all.terms(k, n).to_vec()).filter(|t| matches!(t[0], F::L(_))).collect();
-                these = these.iter().flat_map(|before| next.iter().map(|one| [&before[..], &[one.clone()]].concat()).collect::<Vec<_>>()).collect();
+                these = these.iter().flat_map(|before| next.iter().map(|one| [&before[..], std::slice::from_ref(one)].concat()).collect::<Vec<_>>()).collect();
             }
             preludes += these.len() as u64;
             for t in (1..=most).flat_map(|n| all.terms(f, n).to_vec()) {

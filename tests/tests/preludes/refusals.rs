@@ -153,7 +153,7 @@ fn n_outside_its_limits() {
     let with = |definitions: &[Vec<u8>], number: u8| refused(&encode(definitions), &file, number);
     for (n, bytes) in [(0, 0), (16_385, 49_155), (65_535, 196_605), (32_768, 98_304), (21_846, 65_538)] {
         let one = raw(0, n, bytes);
-        with(&[one.clone()], 2);
+        with(std::slice::from_ref(&one), 2);
         with(&[one.clone(), sound(1)], 2);
         with(&[sound(0), raw(1, n, bytes)], 2);
         with(&[sound(0), raw(1, n, bytes), sound(2)], 2);
@@ -165,7 +165,7 @@ fn n_outside_its_limits() {
         // an earlier definition's own refusal
         for number in [4, 5, 6, 7] { with(&[damaged(0, &[number]), raw(1, n, bytes)], number); }
         // bytes left over or missing
-        refused(&[encode(&[one.clone()]), vec![0]].concat(), &file, 17);
+        refused(&[encode(std::slice::from_ref(&one)), vec![0]].concat(), &file, 17);
         refused(&encode(&[one])[..5 + bytes], &file, 17);
         if bytes > 0 { for there in [0, 1, 3, bytes / 2, bytes - 1] { with(&[raw(0, n, there)], 17); } }
     }
@@ -203,6 +203,9 @@ fn names_before_it() {
     refused(&with([(0, "l0 v0"), (1, "l2 v1"), (2, "l2 v2")]), &file, 6);
     refused(&with([(0, "l0 v0"), (1, "l1 v2"), (2, "l2 v2")]), &file, 7);
     refused(&with([(0, "l0 v0"), (2, "l2 v1"), (2, "l2 v2")]), &file, 19);
+    // what is free in it goes by its own f, not by its place
+    refused(&with([(0, "l0 v0"), (0, "l0 v1"), (2, "l2 v2")]), &file, 7);
+    refused(&with([(0, "l0 v0"), (1, "l1 v1"), (1, "l1 v2")]), &file, 7);
     refused(&with([(1, "l1 v0"), (1, "l1 v1"), (2, "l2 v2")]), &file, 19);
     // fewer free names than its place allows
     refused(&with([(0, "l0 v0"), (0, "l0 v0"), (2, "l2 v2")]), &file, 19);
