@@ -135,7 +135,6 @@ fn on_eight_mebibytes() {
 }
 
 /// Where loading is refused the allowances are those of all files together, however many nodes these have.
-#[test]
 fn allowances_at_a_loading_refusal() {
     for (d, rules) in [(1, Rules::First), (2, Rules::OnDemand), (9, Rules::First), (30, Rules::First), (30, Rules::OnDemand)] {
         let s = Subject::of(d + 1, &vec![l(X, left_nested(8191, X)); d], &a(v(0), v(0)));
@@ -147,7 +146,6 @@ fn allowances_at_a_loading_refusal() {
 }
 
 /// Names alone are short where all definitions are abstractions and the nodes fit: exactly enough, and one less.
-#[test]
 fn names_at_their_limit() {
     let names = 16_384 + 16_381 + 2;
     for rules in BOTH {
@@ -167,7 +165,6 @@ fn names_at_their_limit() {
 }
 
 /// The refusals of the last of many definitions.
-#[test]
 fn the_last_of_many() {
     let many = |last: &[u8]| {
         let mut definitions: Vec<Vec<u8>> = (0..16_383).map(|k| from_text(k, &format!("l{k} v{}", k.max(1) - 1)).file()).collect();
@@ -185,6 +182,10 @@ fn the_last_of_many() {
         assert_eq!(Case::glow(rules, &file).with(&many(&last(16_383, "l16383 v0"))).check().kind(), 9);
     }
 }
+
+/// Those that nothing is painted for.
+#[test]
+fn loading_and_refusals() { glow_tests::painted::on_eight_mebibytes(|| { allowances_at_a_loading_refusal(); names_at_their_limit(); the_last_of_many(); }) }
 
 #[cfg(feature = "library")]
 fn library_use(rules: Rules, s: &Subject, l: &Lengths) -> Option<usize> {
