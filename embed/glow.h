@@ -22,12 +22,12 @@ enum glow_machine {
     GLOW_ON_DEMAND = 1          /* Fast GLAMOUR */
 };
 
-/* What glow_evaluate returns. */
+/* What glow_evaluate and glow_evaluate_with return. */
 enum glow_status {
     GLOW_NORMAL = 0,            /* the term is in the output arrays */
     GLOW_SPENT = 1,             /* the beta steps made equal the budget, and another one is next */
     GLOW_REFUSED = 2,           /* refusal 8 to 12, its number in report[GLOW_REFUSAL] */
-    GLOW_FILE_REFUSED = 3,      /* refusal 1 to 7; only report[GLOW_REFUSAL] is written, no array is changed */
+    GLOW_FILE_REFUSED = 3,      /* refusal 1 to 7 or 17 to 19; only report[GLOW_REFUSAL] is written, no array is changed */
     GLOW_REPORT_TOO_SHORT = 4,  /* report_len is below GLOW_REPORT_LEN; nothing is touched */
     GLOW_NO_SUCH_MACHINE = 5    /* machine is no number of glow_machine, which is asked first of all; nothing is touched */
 };
@@ -39,7 +39,8 @@ enum glow_exchange_status {
     GLOW_EXCHANGE_REPORT_TOO_SHORT = 4  /* report_len is below GLOW_EXCHANGE_REPORT_LEN; nothing is touched */
 };
 
-/* Refusal numbers. glow_evaluate gives 1 to 12, glow_import 2, 12 and 14 to 16, glow_export 1 to 7 and 12. */
+/* Refusal numbers. glow_evaluate gives 1 to 12, glow_evaluate_with also 17 to 19, glow_import 2, 12 and 14 to 16, glow_export
+   1 to 7 and 12. Of glow_evaluate_with 2 and 4 to 7 may also be a definition's. */
 enum glow_refusal {
     GLOW_FILE_TOO_SHORT = 1,    /* fewer than 4 bytes */
     GLOW_FILE_LIMITS = 2,       /* f or n outside its limits; of glow_import, f */
@@ -57,12 +58,15 @@ enum glow_refusal {
                                 /* 13 is not used */
     GLOW_BITS_TOO_SHORT = 14,   /* glow_import alone: the bits end inside a term, or there are none */
     GLOW_BITS_PADDING = 15,     /* glow_import alone: the padding is not zero, or there is a spare byte */
-    GLOW_BITS_LIMITS = 16       /* glow_import alone: a node beyond GLOW_MOST_FILE_NODES, or a free name not below f */
+    GLOW_BITS_LIMITS = 16,      /* glow_import alone: a node beyond GLOW_MOST_FILE_NODES, or a free name not below f */
+    GLOW_PRELUDE_BYTES = 17,    /* glow_evaluate_with alone: more definitions than free names, or bytes left over or missing */
+    GLOW_PRELUDE_NOT_ABSTRACTION = 18,  /* glow_evaluate_with alone: a definition is not an abstraction */
+    GLOW_PRELUDE_PLACE = 19     /* glow_evaluate_with alone: the f of a definition is not its place */
 };
 
 /* Elements of the report. GLOW_SUBST_ALLOWANCE is (1 + b) V on the first machine and 1 + b on demand, and
-   GLOW_SHIFT_ALLOWANCE is (1 + b) 2 A on both: b the beta steps made, V the variables of the file and A its applications.
-   No run makes more substs, nor more enters and leaves together, than that. */
+   GLOW_SHIFT_ALLOWANCE is (1 + b) 2 A on both: b the beta steps made, V the variables of the file and A its applications,
+   with those of the definitions. No run makes more substs, nor more enters and leaves together, than that. */
 enum glow_report {
     GLOW_REFUSAL = 0, GLOW_WRITTEN = 1, GLOW_BETA = 2, GLOW_SUBST = 3, GLOW_ENTER = 4,
     GLOW_LEAVE_FUN = 5, GLOW_LEAVE_INERT = 6, GLOW_NODES = 7, GLOW_CELLS = 8, GLOW_NAMES = 9,
@@ -81,7 +85,8 @@ enum glow_tag { GLOW_VARIABLE = 0, GLOW_ABSTRACTION = 1, GLOW_APPLICATION = 2 };
 /* Stack. A call of glow_evaluate takes at most GLOW_STACK_NEEDED(nodes, cells) bytes, where nodes is the shorter
    length of tags and args, and cells the shortest of codes, owns and nexts: 2,072,576 with the program's stores,
    and GLOW_MOST_STACK_NEEDED, 4,038,656, with the largest. For counting and writing a result call themselves, no
-   deeper than there are cells, nor than one for each four nodes. On a thread with less a term that is nested
+   deeper than there are cells, nor than one for each four nodes. A definition has no cell, so a call of
+   glow_evaluate_with takes at most GLOW_STACK_NEEDED(nodes, nodes). On a thread with less a term that is nested
    deeply enough overflows the stack, which ends the process. */
 #define GLOW_STACK_FOR_A_CALL 106496
 #define GLOW_STACK_FOR_A_LEVEL 480
@@ -95,6 +100,27 @@ enum glow_tag { GLOW_VARIABLE = 0, GLOW_ABSTRACTION = 1, GLOW_APPLICATION = 2 };
    No two arrays may overlap. Where a length is 0 the pointer may be anything, null too. */
 uint32_t glow_evaluate(
     uint32_t machine,                                                           /* of glow_machine */
+    const uint8_t *file, size_t file_len, uint32_t budget,
+    uint8_t *tags, size_t tags_len, uint16_t *args, size_t args_len,            /* node store */
+    uint16_t *codes, size_t codes_len, uint16_t *owns, size_t owns_len,
+    uint16_t *nexts, size_t nexts_len,                                          /* cell store */
+    uint16_t *places, size_t places_len,                                        /* name store */
+    uint16_t *renumber, size_t renumber_len,
+    uint8_t *out_tags, size_t out_tags_len, uint16_t *out_args, size_t out_args_len,
+    uint64_t *report, size_t report_len);
+
+/* As glow_evaluate, with named definitions. A prelude is a 16-bit count d, little endian, and then d term files, each of 4 + 3 n
+   bytes, n its own. Definition k is an abstraction that stands for the free name k, and its f is k, so that it may use the
+   names of those before it. d is at most the f of the file; names from d on stay free. Where no store refuses, the status, the
+   beta steps and the term are those of the term with the definitions put in. Loading takes the nodes of the file and of all
+   definitions, and f names and one for each abstraction in them; a definition takes no cell.
+
+   The refusals in the order of their tests: 1 to 7 of the file; 17; 2 and 4 to 7 of each definition in turn; 18 over all
+   definitions, and 19 over all. Then come those of a run. With the two bytes 00 00 for a prelude a call is one of
+   glow_evaluate. */
+uint32_t glow_evaluate_with(
+    uint32_t machine,                                                           /* of glow_machine */
+    const uint8_t *prelude, size_t prelude_len,
     const uint8_t *file, size_t file_len, uint32_t budget,
     uint8_t *tags, size_t tags_len, uint16_t *args, size_t args_len,            /* node store */
     uint16_t *codes, size_t codes_len, uint16_t *owns, size_t owns_len,

@@ -74,7 +74,7 @@ try() {
 }
 
 why=$(build) || { echo "the plain machine $why"; exit 1; }
-if run_tests "${tests[@]}" --test binary; then echo "nothing wrong: passes"; else echo "nothing wrong: FAILED, see $scratch/log"; exit 1; fi
+if run_tests "${tests[@]}" --test preludes --test binary; then echo "nothing wrong: passes"; else echo "nothing wrong: FAILED, see $scratch/log"; exit 1; fi
 
 # Where entries are wrong, a name or a stack may be a part of itself. To unfold it would not end; it is given up as too long.
 ends=("sums.push(0);" "if sums.len() > names { return None; } sums.push(0);"
@@ -203,16 +203,112 @@ try "demand: a leave of an unapplied function counted as leave-fun" "if t == 1 {
 try "demand: the subst allowance of the first machine" "$allowed" "(1 + beta) * vars"
 try "demand: the subst allowance on both machines" "$allowed" "beta + 1"
 try "demand: a subst allowance of as many as betas" "$allowed" "if ON_DEMAND { beta } else { (1 + beta) * vars }"
-try "demand: an unknown machine taken for the first" "_ => 5," "_ => run::<false>(b, budget, s, report),"
-try "demand: an unknown machine taken for the one on demand" "_ => 5," "_ => run::<true>(b, budget, s, report),"
+try "demand: an unknown machine taken for the first" "_ => 5," "_ => run::<false>(p, b, budget, s, report),"
+try "demand: an unknown machine taken for the one on demand" "_ => 5," "_ => run::<true>(p, b, budget, s, report),"
 try "demand: the machine's number read with 8 bits" "match machine {" "match machine as u8 {"
 try "demand: the machine's number read with 31 bits" "match machine {" "match machine & 0x7FFF_FFFF {"
 try "demand: the two machines the other way about" "0 => run::<false>" "0 => run::<true>" "1 => run::<true>" "1 => run::<false>"
 try "demand: the report's length asked for before the machine" "    match machine {" "    if report.len() < 12 { return 4; }
     match machine {"
-try "demand: the file looked at before the machine" "    match machine {" "    if report.len() >= 12 && check(b) != 0 { return run::<false>(b, budget, s, report); }
+try "demand: the file looked at before the machine" "    match machine {" "    if report.len() >= 12 && check(b) != 0 { return run::<false>(p, b, budget, s, report); }
     match machine {"
 try "demand: an unknown machine told in the report" "_ => 5," "_ => { if let Some(first) = report.first_mut() { *first = 5; } 5 }"
+
+# named definitions: how a prelude is cut and refused, what is loaded, what is counted, and what a name stands for
+tests=(--test preludes)
+count="if word(p, 0) > f { return Err(17); }"
+cutting="        starts.push(at);"
+whole="    if p.len() != at { return Err(17); }"
+own="if bad != 0 { return Err(bad); }"
+abstraction="    if starts.iter().any(|&at| p[at + 4] != 1) { return Err(18); }"
+place="    if starts.iter().enumerate().any(|(k, &at)| word(p, at) != k) { return Err(19); }"
+refused="Err(bad) => { report[0] = bad; return 3; }"
+loaded="let names0 = f + sum(1) as usize;"
+try "prelude: 18 before 17" "$whole" "    if starts.iter().any(|&at| p.get(at + 4).is_some_and(|&tag| tag != 1)) { return Err(18); }
+$whole"
+try "prelude: a definition's 2 while it is cut" "$cutting" "$cutting
+        if word(p, at) > 16_384 || word(p, at + 2) == 0 || word(p, at + 2) > 16_384 { return Err(2); }"
+try "prelude: a definition's own refusals while it is cut" "$cutting" "$cutting
+        let end = at + 4 + 3 * word(p, at + 2);
+        if end <= p.len() { let bad = check(&p[at..end]); $own }"
+try "prelude: 18 of each definition in turn" "$own" "$own
+        if p[at + 4] != 1 { return Err(18); }"
+try "prelude: 19 of each definition in turn" "    for &at in &starts {" "    for (k, &at) in starts.iter().enumerate() {" "$own" "$own
+        if word(p, at) != k && p[at + 4] == 1 { return Err(19); }"
+try "prelude: 18 and 19 of each definition in turn, behind the others" "$abstraction" "    for (k, &at) in starts.iter().enumerate() { if p[at + 4] != 1 { return Err(18); } if word(p, at) != k { return Err(19); } }"
+try "prelude: 19 before 18" "$abstraction" "$place
+$abstraction"
+try "prelude: 19 before a definition's own refusals" "    for &at in &starts {" "$place
+    for &at in &starts {"
+try "prelude: own refusals by the last definition first" "    for &at in &starts {" "    for &at in starts.iter().rev() {"
+try "prelude: each own refusal over all definitions before the next" "    for &at in &starts {" "    let all = starts.iter().map(|&at| check(&p[at..at + 4 + 3 * word(p, at + 2)])).filter(|&bad| bad != 0).min();
+    if let Some(bad) = all { return Err(bad); }
+    for &at in &starts {"
+try "prelude: its refusals before the term's" "    let bad = check(b);
+    if bad != 0 { report" "    if b.len() > 1 { if let Err(bad) = check_prelude(p, word(b, 0)) { report[0] = bad; return 3; } }
+    let bad = check(b);
+    if bad != 0 { report"
+try "prelude: fewer than two bytes taken for no definition" "if p.len() < 2 { return Err(17); }" "if p.len() < 2 { return Ok(starts); }"
+try "prelude: more definitions than free names" "$count" ""
+try "prelude: more definitions than free names refused last" "$count" "" "    Ok(starts)" "    $count
+    Ok(starts)"
+try "prelude: one definition fewer than free names" "$count" "if word(p, 0) >= f.max(1) { return Err(17); }"
+try "prelude: the count read with 8 bits" "$count" "if p[0] as usize > f { return Err(17); }" "for _ in 0..word(p, 0)" "for _ in 0..p[0]"
+try "prelude: bytes left over" "$whole" "    if p.len() < at { return Err(17); }"
+try "prelude: one byte left over" "$whole" "    if p.len() < at || p.len() > at + 1 { return Err(17); }"
+try "prelude: a header cut short taken for none" "if p.len() < at + 4 { return Err(17); }" "if p.len() < at + 4 { break; }"
+try "prelude: n cut at its limit" "at += 4 + 3 * word(p, at + 2);" "at += 4 + 3 * word(p, at + 2).min(16_384);"
+try "prelude: n of 0 with the bytes of one node" "at += 4 + 3 * word(p, at + 2);" "at += 4 + 3 * word(p, at + 2).max(1);"
+try "prelude: a definition's bytes counted with 16 bits" "at += 4 + 3 * word(p, at + 2);" "at += (4 + 3 * word(p, at + 2)) as u16 as usize;"
+try "prelude: a definition's names checked by its place" "    for &at in &starts {
+        let bad = check(&p[at..at + 4 + 3 * word(p, at + 2)]);" "    for (k, &at) in starts.iter().enumerate() {
+        let mut one = p[at..at + 4 + 3 * word(p, at + 2)].to_vec();
+        if word(&one, 0) <= 16_384 { one[..2].copy_from_slice(&(k as u16).to_le_bytes()); }
+        let bad = check(&one);"
+try "prelude: a definition that is no abstraction" "$abstraction" ""
+try "prelude: a definition that is an application" "p[at + 4] != 1)" "p[at + 4] == 0)"
+try "prelude: a definition may name itself" "word(p, at) != k)" "word(p, at) != k && word(p, at) != k + 1)"
+try "prelude: a definition may have fewer free names" "word(p, at) != k)" "word(p, at) > k)"
+try "prelude: the place not looked at" "$place" ""
+try "prelude: the last definition's place not looked at" "word(p, at) != k)" "word(p, at) != k && k + 1 < starts.len())"
+try "prelude: a node changed at a refusal" "$refused" "Err(bad) => { report[0] = bad; if let Some(tag) = s.tags.first_mut() { *tag ^= 1; } return 3; }"
+try "prelude: a name changed at a refusal" "$refused" "Err(bad) => { report[0] = bad; if let Some(place) = s.places.last_mut() { *place ^= 1; } return 3; }"
+try "prelude: the output changed at a refusal" "$refused" "Err(bad) => { report[0] = bad; if let Some(x) = s.out_args.last_mut() { *x ^= 1; } return 3; }"
+try "prelude: all of the report written at a refusal" "$refused" "Err(bad) => { report[..12].fill(0); report[0] = bad; return 3; }"
+try "prelude: a name changed at a loading refusal" "        if n > cap {" "        if n > cap && !s.places.is_empty() { s.places[0] = DEFINED; }
+        if n > cap {"
+try "prelude: binders keep their numbers" "x - f + names }" "x + 0 * names }" "${ends[@]}"
+try "prelude: binders named from f on" "(word(b, 2), f + count(b, 1) as usize)" "(word(b, 2), f)" "${ends[@]}"
+try "prelude: each definition's binders named from f + L on" "            name += count(d, 1) as usize;
+" "            let _ = &mut name;
+" "${ends[@]}"
+# (in which order the definitions' binders are named could not be seen: they are new names in any order)
+try "prelude: f + L names taken" "$loaded" "let names0 = f + count(b, 1) as usize;" "${ends[@]}"
+try "prelude: the term's nodes taken alone" "        if n > cap { nodes" "        nodes = word(b, 2);
+        if n > cap { nodes" "${ends[@]}"
+try "prelude: the term's nodes asked for alone" "        if n > cap {" "        if word(b, 2) > cap {"
+try "prelude: a cell for each definition" "(n, 0usize, names0)" "(n, definitions.len(), names0)"
+try "prelude: a cell for each definition in the figures" "nodes as u64, cells as u64," "nodes as u64, cells as u64 + definitions.len() as u64,"
+try "prelude: a cell for each definition asked for" "if cells >= cells_cap" "if cells + definitions.len() >= cells_cap"
+try "prelude: 10 before 9 at loading" "        if n > cap {" "        if names0 > names_cap { nodes = 0; names = 0; break 'run 10; }
+        if n > cap {"
+try "prelude: V of the term alone" "let (vars, apps) = (sum(0), sum(2));" "let (vars, apps) = (count(b, 0), sum(2));"
+try "prelude: A of the term alone" "let (vars, apps) = (sum(0), sum(2));" "let (vars, apps) = (sum(0), count(b, 2));"
+try "prelude: V and A counted with 16 bits" "let (vars, apps) = (sum(0), sum(2));" "let (vars, apps) = (sum(0) as u16 as u64, sum(2) as u16 as u64);"
+try "prelude: a definition fired where it lies, without a copy" "                                let end = end_of(s.tags, from);" "                                if e == DEFINED { code = from; subst += 1; continue; }
+                                let end = end_of(s.tags, from);" "${ends[@]}"
+try "prelude: a definition's copy keeps its binders" "x = x - z + names;" "if e != DEFINED { x = x - z + names; }" "${ends[@]}"
+try "prelude: a definition copied for a name that is not applied, on demand" "$lookup" "if t == 0 && (!ON_DEMAND || stack != 0 || s.places[s.args[code] as usize] == DEFINED) {"
+try "prelude: a definition left alone on the first machine where it is not applied" "$lookup" "if t == 0 && (stack != 0 || !ON_DEMAND && s.places[s.args[code] as usize] != DEFINED) {"
+try "prelude: a definition's name made an entry on demand" "$bare" "if ON_DEMAND && s.owns[top] == 0 && s.tags[s.codes[top] as usize] == 0 && s.places[s.args[s.codes[top] as usize] as usize] != DEFINED {"
+try "prelude: definitions not put in as the term is written" "if s.tags[k] == 0 && s.places[x] != 0 {" "if s.tags[k] == 0 && s.places[x] != 0 && s.places[x] != DEFINED {" "_ if s.places[x] != 0 =>" "_ if s.places[x] != 0 && s.places[x] != DEFINED =>"
+try "prelude: the term written with the free names that are no definitions" "match result(s, &defined, code, stack, names, room, f)" "match result(s, &defined, code, stack, names, room, f - defined.len())"
+try "prelude: the first definition alone is an entry" "            s.places[k] = DEFINED;" "            if k == 0 { s.places[k] = DEFINED; }"
+try "prelude: the last definition is no entry" "            s.places[k] = DEFINED;" "            if k + 1 < definitions.len() { s.places[k] = DEFINED; }"
+source=$calls
+try "prelude: left out of the call" "evaluate_with(machine, slice(prelude, prelude_len)," "evaluate_with(machine, if prelude_len == 0 { &[] } else { &[0, 0] },"
+try "prelude: a null pointer taken for no definition" "slice(prelude, prelude_len), slice(file" "if prelude.is_null() { &[0, 0] } else { slice(prelude, prelude_len) }, slice(file"
+source=$machine
 tests=("${all[@]}")
 
 try "10 before 9 at loading" "if n > cap { nodes = 0; names = 0; break 'run 9; }" "if names0 > names_cap { nodes = 0; names = 0; break 'run 10; } if n > cap { nodes = 0; names = 0; break 'run 9; }"

@@ -1,10 +1,13 @@
 //! One case, on one of the two machines: the second implementation's answer, and the library's compared with it field by field
 //! and array by array, with sentinels before and after every lent slice.
-use crate::machine::{evaluate, Answer, Lengths, Rules};
+use crate::machine::{evaluate_with, Answer, Lengths, Rules};
+use crate::prelude;
 
 #[derive(Clone, Debug)]
 pub struct Case<'a> {
     pub rules: Rules,
+    /// for the library's call with a prelude; none for the one without
+    pub prelude: Option<&'a [u8]>,
     pub file: &'a [u8],
     pub budget: u32,
     pub lengths: Lengths,
@@ -16,21 +19,22 @@ pub struct Case<'a> {
 }
 
 impl<'a> Case<'a> {
-    pub fn new(rules: Rules, file: &'a [u8], budget: u32, lengths: Lengths) -> Case<'a> { Case { rules, file, budget, lengths, garbage: 7, report_len: 12, nulls: false } }
+    pub fn new(rules: Rules, file: &'a [u8], budget: u32, lengths: Lengths) -> Case<'a> { Case { rules, prelude: None, file, budget, lengths, garbage: 7, report_len: 12, nulls: false } }
     pub fn glow(rules: Rules, file: &'a [u8]) -> Case<'a> { Case { garbage: 0, ..Case::new(rules, file, crate::machine::GLOW_BUDGET, Lengths::glow()) } }
     pub fn garbage(mut self, g: u64) -> Self { self.garbage = g; self }
     pub fn nulls(mut self) -> Self { self.nulls = true; self }
+    pub fn with(mut self, prelude: &'a [u8]) -> Self { self.prelude = Some(prelude); self }
     /// The second implementation's answer, after the library's has been compared with it. Panics on a difference.
     pub fn check(&self) -> Answer {
-        let answer = evaluate(self.rules, self.file, self.budget, &self.lengths);
+        let answer = evaluate_with(self.rules, self.prelude.unwrap_or(prelude::NONE), self.file, self.budget, &self.lengths);
         self.check_against(&answer);
         answer
     }
     pub fn check_against(&self, answer: &Answer) {
         if let Err(why) = compare(self, answer) {
-            let shown: Vec<String> = self.file.iter().take(400).map(|b| format!("{b:02x}")).collect();
-            panic!("DISAGREEMENT: {why}\n machine {:?} budget {} lengths {:?} garbage {} report_len {} nulls {}\n second implementation: {}\n file ({} bytes): {}",
-                self.rules, self.budget, self.lengths, self.garbage, self.report_len, self.nulls, crate::machine::printed(answer), self.file.len(), shown.join(" "));
+            let shown = |bytes: &[u8]| format!("({} bytes): {}", bytes.len(), bytes.iter().take(400).map(|b| format!("{b:02x}")).collect::<Vec<_>>().join(" "));
+            panic!("DISAGREEMENT: {why}\n machine {:?} budget {} lengths {:?} garbage {} report_len {} nulls {}\n second implementation: {}\n file {}\n prelude {}",
+                self.rules, self.budget, self.lengths, self.garbage, self.report_len, self.nulls, crate::machine::printed(answer), shown(self.file), self.prelude.map_or("none".into(), shown));
         }
     }
 }
@@ -104,7 +108,7 @@ mod library {
     /// The status of the C function, called with any number for a machine and a null pointer for an array of length 0, as C programs may.
     #[allow(clippy::too_many_arguments)]
     fn with_nulls(
-        machine: u32, file: &[u8], budget: u32, tags: &mut [u8], args: &mut [u16], codes: &mut [u16], owns: &mut [u16], nexts: &mut [u16], places: &mut [u16],
+        machine: u32, prelude: Option<&[u8]>, file: &[u8], budget: u32, tags: &mut [u8], args: &mut [u16], codes: &mut [u16], owns: &mut [u16], nexts: &mut [u16], places: &mut [u16],
         renumber: &mut [u16], out_tags: &mut [u8], out_args: &mut [u16], report: &mut [u64],
     ) -> u32 {
         extern "C" {
@@ -114,16 +118,31 @@ mod library {
                 places: *mut u16, places_len: usize, renumber: *mut u16, renumber_len: usize,
                 out_tags: *mut u8, out_tags_len: usize, out_args: *mut u16, out_args_len: usize, report: *mut u64, report_len: usize,
             ) -> u32;
+            fn glow_evaluate_with(
+                machine: u32, prelude: *const u8, prelude_len: usize, file: *const u8, file_len: usize, budget: u32, tags: *mut u8, tags_len: usize, args: *mut u16, args_len: usize,
+                codes: *mut u16, codes_len: usize, owns: *mut u16, owns_len: usize, nexts: *mut u16, nexts_len: usize,
+                places: *mut u16, places_len: usize, renumber: *mut u16, renumber_len: usize,
+                out_tags: *mut u8, out_tags_len: usize, out_args: *mut u16, out_args_len: usize, report: *mut u64, report_len: usize,
+            ) -> u32;
         }
         fn start<T>(s: &mut [T]) -> *mut T { if s.is_empty() { std::ptr::null_mut() } else { s.as_mut_ptr() } }
+        fn given(s: &[u8]) -> *const u8 { if s.is_empty() { std::ptr::null() } else { s.as_ptr() } }
         // SAFETY: each pointer is to a slice that is borrowed alone, as long as is said, or is null with the length 0, which glow.h allows.
         unsafe {
-            glow_evaluate(
-                machine, if file.is_empty() { std::ptr::null() } else { file.as_ptr() }, file.len(), budget, start(tags), tags.len(), start(args), args.len(),
-                start(codes), codes.len(), start(owns), owns.len(), start(nexts), nexts.len(),
-                start(places), places.len(), start(renumber), renumber.len(),
-                start(out_tags), out_tags.len(), start(out_args), out_args.len(), start(report), report.len(),
-            )
+            match prelude {
+                None => glow_evaluate(
+                    machine, given(file), file.len(), budget, start(tags), tags.len(), start(args), args.len(),
+                    start(codes), codes.len(), start(owns), owns.len(), start(nexts), nexts.len(),
+                    start(places), places.len(), start(renumber), renumber.len(),
+                    start(out_tags), out_tags.len(), start(out_args), out_args.len(), start(report), report.len(),
+                ),
+                Some(prelude) => glow_evaluate_with(
+                    machine, given(prelude), prelude.len(), given(file), file.len(), budget, start(tags), tags.len(), start(args), args.len(),
+                    start(codes), codes.len(), start(owns), owns.len(), start(nexts), nexts.len(),
+                    start(places), places.len(), start(renumber), renumber.len(),
+                    start(out_tags), out_tags.len(), start(out_args), out_args.len(), start(report), report.len(),
+                ),
+            }
         }
     }
 
@@ -159,43 +178,59 @@ mod library {
         }
     }
 
+    /// The same of a call with a prelude.
+    pub fn told_with(f: usize, a: Result<glow::Answer, glow::PreludeRefusal>) -> Answer {
+        match a { Ok(a) => told(f, a), Err(why) => Answer::FileRefused(why.number()) }
+    }
+
     /// A call that needs much stack, and its answer.
-    struct DeepCall { rules: Rules, f: usize, file: Vec<u8>, lengths: Lengths, answer: Answer }
+    struct DeepCall { rules: Rules, prelude: Option<Vec<u8>>, f: usize, file: Vec<u8>, lengths: Lengths, answer: Answer }
 
     /// On each machine the deepest terms for glow's stores and for the largest, and on the first, where it is one of entries, a long chain
-    /// of renamings.
+    /// of renamings. With a prelude a chain of definitions, for which no cell is lent.
     fn all_deep_calls() -> Vec<DeepCall> {
-        use crate::families::{abstraction_chain, longest_copied_abstraction_chain, renamings};
+        use crate::families::{abstraction_chain, definition_chain, longest_copied_abstraction_chain, renamings};
+        use crate::flat::{canonical, v};
         use crate::machine::BOTH;
         let terms = [
-            (&BOTH[..1], 1, renamings(5461), Lengths::glow()),
-            (&BOTH[..], 0, abstraction_chain(4095), Lengths::glow()),
-            (&BOTH[..], 0, longest_copied_abstraction_chain(32_768), Lengths::largest()),
-            (&BOTH[..], 0, abstraction_chain(1), Lengths::of(6, 1, 3, 3, 3)),
+            (&BOTH[..1], None, 1, renamings(5461), Lengths::glow()),
+            (&BOTH[..], None, 0, abstraction_chain(4095), Lengths::glow()),
+            (&BOTH[..], None, 0, longest_copied_abstraction_chain(32_768), Lengths::largest()),
+            (&BOTH[..], None, 0, abstraction_chain(1), Lengths::of(6, 1, 3, 3, 3)),
+            (&BOTH[..], Some(definition_chain(5461)), 5461, v(5460), Lengths::of(32_768, 0, 32_768, 32_768, 16_384)),
         ];
         let mut calls = Vec::new();
-        for (machines, f, term, lengths) in terms {
-            let file = crate::flat::canonical(f, &term).file();
+        for (machines, definitions, f, term, lengths) in terms {
+            let prelude = definitions.map(|all| prelude::encode(&all.iter().enumerate().map(|(k, t)| canonical(k, t).file()).collect::<Vec<_>>()));
+            let file = canonical(f, &term).file();
             for &rules in machines {
-                let answer = evaluate(rules, &file, GLOW_BUDGET, &lengths);
+                let answer = evaluate_with(rules, prelude.as_deref().unwrap_or(prelude::NONE), &file, GLOW_BUDGET, &lengths);
                 assert!(matches!(answer.run().outcome, Outcome::Normal(_)));
-                calls.push(DeepCall { rules, f, file: file.clone(), lengths, answer });
+                calls.push(DeepCall { rules, prelude: prelude.clone(), f, file: file.clone(), lengths, answer });
             }
         }
         calls
     }
 
-    /// Calls of the wrapper's `evaluate` that need much stack, for `tests/threads.rs` to make on small ones. Each answer is compared.
+    /// Calls of the wrapper's `evaluate` and `evaluate_with` that need much stack, for `tests/threads.rs` to make on small ones. Each answer is compared.
     pub fn deep_calls() {
         static CALLS: std::sync::OnceLock<Vec<DeepCall>> = std::sync::OnceLock::new();
-        for DeepCall { rules, f, file, lengths: l, answer } in CALLS.get_or_init(all_deep_calls) {
+        for DeepCall { rules, prelude, f, file, lengths: l, answer } in CALLS.get_or_init(all_deep_calls) {
             let machine = glow::Machine::from(*rules);
             let mut stores = glow::Stores::new(l.tags, l.codes, l.places, l.renumber, l.out_tags);
-            assert_eq!(&told(*f, stores.evaluate(machine, file, GLOW_BUDGET)), answer);
+            let said = match prelude {
+                None => told(*f, stores.evaluate(machine, file, GLOW_BUDGET)),
+                Some(prelude) => told_with(*f, stores.evaluate_with(machine, prelude, file, GLOW_BUDGET)),
+            };
+            assert_eq!(&said, answer);
             let s = &mut stores;
             let mut report = [0; 12];
-            let status = glow::evaluate_in(machine, file, GLOW_BUDGET, &mut s.tags, &mut s.args, &mut s.codes, &mut s.owns, &mut s.nexts, &mut s.places,
-                &mut s.renumber, &mut s.out_tags, &mut s.out_args, &mut report);
+            let status = match prelude {
+                None => glow::evaluate_in(machine, file, GLOW_BUDGET, &mut s.tags, &mut s.args, &mut s.codes, &mut s.owns, &mut s.nexts, &mut s.places,
+                    &mut s.renumber, &mut s.out_tags, &mut s.out_args, &mut report),
+                Some(prelude) => glow::evaluate_with_in(machine, prelude, file, GLOW_BUDGET, &mut s.tags, &mut s.args, &mut s.codes, &mut s.owns, &mut s.nexts, &mut s.places,
+                    &mut s.renumber, &mut s.out_tags, &mut s.out_args, &mut report),
+            };
             assert_eq!((status, report[2], report[3]), (glow::Status::Normal, answer.run().counts.beta, answer.run().counts.subst));
         }
     }
@@ -223,17 +258,20 @@ mod library {
             }
         }
 
-        /// The status of a call, by the wrapper unless it could not make it. Neither the file nor anything outside of the arrays may change.
+        /// The status of a call, by the wrapper unless it could not make it. Neither the file nor the prelude nor anything outside of the arrays
+        /// may change.
         fn call(&mut self, case: &Case, machine: u32) -> Result<u32, String> {
-            let file = case.file.to_vec();
+            let given = (case.prelude.map(<[u8]>::to_vec), case.file.to_vec());
             let (tags, args, codes, owns, nexts) = (self.tags.slice(), self.args.slice(), self.codes.slice(), self.owns.slice(), self.nexts.slice());
             let (places, renumber, out_tags, out_args, report) = (self.places.slice(), self.renumber.slice(), self.out_tags.slice(), self.out_args.slice(), self.report.slice());
             let status = if case.nulls || machine != case.rules.number() {
-                with_nulls(machine, case.file, case.budget, tags, args, codes, owns, nexts, places, renumber, out_tags, out_args, report)
+                with_nulls(machine, case.prelude, case.file, case.budget, tags, args, codes, owns, nexts, places, renumber, out_tags, out_args, report)
+            } else if let Some(prelude) = case.prelude {
+                number(glow::evaluate_with_in_on_this_stack(case.rules.into(), prelude, case.file, case.budget, tags, args, codes, owns, nexts, places, renumber, out_tags, out_args, report))
             } else {
                 number(glow::evaluate_in_on_this_stack(case.rules.into(), case.file, case.budget, tags, args, codes, owns, nexts, places, renumber, out_tags, out_args, report))
             };
-            if file != case.file { return Err("the file was changed".into()); }
+            if given != (case.prelude.map(<[u8]>::to_vec), case.file.to_vec()) { return Err("the file or the prelude was changed".into()); }
             self.tags.ends()?; self.args.ends()?; self.codes.ends()?; self.owns.ends()?; self.nexts.ends()?; self.places.ends()?;
             self.renumber.ends()?; self.out_tags.ends()?; self.out_args.ends()?; self.report.ends()?;
             Ok(status)

@@ -109,6 +109,9 @@ pub fn inert_chain_left(n: usize) -> Flat {
     out
 }
 
+/// The identity, and then so many definitions in all, each \x. d x with d the one before: each name has a node behind it. 4 n - 2 nodes.
+pub fn definition_chain(n: usize) -> Vec<Flat> { std::iter::once(id()).chain((1..n as u32).map(|k| l(X, a(v(k - 1), v(X))))).collect() }
+
 pub fn church(n: usize) -> Flat {
     let mut out = vec![F::L(G), F::L(H)];
     for _ in 0..n { out.extend([F::A, F::V(G)]); }

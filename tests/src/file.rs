@@ -21,7 +21,7 @@ impl Parsed {
     pub fn count(&self, tag: u8) -> usize { self.tags.iter().filter(|&&t| t == tag).count() }
 }
 
-fn word(bytes: &[u8], at: usize) -> usize { bytes[at] as usize + 256 * bytes[at + 1] as usize }
+pub fn word(bytes: &[u8], at: usize) -> usize { bytes[at] as usize + 256 * bytes[at + 1] as usize }
 
 pub fn encode(f: usize, tags: &[u8], args: &[u16]) -> Vec<u8> {
     let mut out = Vec::with_capacity(4 + 3 * tags.len());

@@ -1,7 +1,7 @@
 //! A second implementation of the papers (source document 000, 01 and 02), written separately:
 //! the calculus by plain substitution on trees, the two machines by their rules on ordinary
-//! data structures, binary lambda calculus by descent into trees, and the comparison of the
-//! library with them.
+//! data structures, preludes, binary lambda calculus by descent into trees, and the comparison
+//! of the library with them.
 pub mod binary;
 pub mod calculus;
 pub mod case;
@@ -14,6 +14,7 @@ pub mod machine;
 pub mod markdown;
 pub mod marked;
 pub mod painted;
+pub mod prelude;
 pub mod prng;
 pub mod process;
 pub mod random;

@@ -78,6 +78,72 @@ pub fn term(r: &mut Prng) -> (usize, Flat) {
     (f, out)
 }
 
+/// A random definition with k free names: one of the known functions, or one that uses those before it, or any.
+fn definition(r: &mut Prng, k: usize) -> Flat {
+    let x = BOUND;
+    let earlier = |r: &mut Prng| v(r.below(k) as u32);
+    match r.below(6) {
+        0 | 1 if k > 0 => match r.below(6) {
+            0 => l(x, earlier(r)),
+            1 => l(x, a(earlier(r), v(x))),
+            2 => l(x, a(v(x), earlier(r))),
+            3 => l(x, a(earlier(r), a(earlier(r), v(x)))),
+            4 => l(x, l(x + 1, apply(earlier(r), [v(x + 1), v(x)]))),
+            _ => l(x, a(earlier(r), earlier(r))),
+        },
+        2 | 3 => { let t = piece(r, k); if let F::L(_) = t[0] { t } else { l(x, t) } }
+        _ => { let mut t = vec![F::L(x)]; let n = if r.one_in(20) { r.between(20, 200) } else { r.between(1, 12) }; some_term(r, k, n, 1, &mut t); t }
+    }
+}
+
+/// f, random definitions for some of the free names or all, and a random term with f free names, which uses definitions as a rule.
+pub fn with_definitions(r: &mut Prng) -> (usize, Vec<Flat>, Flat) {
+    let (mut f, mut t) = term(r);
+    if f == 0 || f > 12 && !r.one_in(8) { f = r.between(1, 8); t.clear(); }
+    let d = match r.below(8) { 0 => 0, 1 => f.min(200), _ => r.between(1, f.min(8)) };
+    let definitions = (0..d).map(|k| definition(r, k)).collect();
+    if t.is_empty() || r.one_in(2) {
+        let head = if d > 0 && !r.one_in(6) { v(r.below(d) as u32) } else { piece(r, f) };
+        let mut arguments: Vec<Flat> = (0..r.between(0, 4)).map(|_| match r.below(3) { 0 if d > 0 => v(r.below(d) as u32), 1 => piece(r, f), _ => { let mut t = vec![]; let n = r.between(1, 10); some_term(r, f, n, 0, &mut t); t } }).collect();
+        if !t.is_empty() && t.len() < 100 { arguments.push(t); }
+        t = apply(head, arguments);
+    }
+    (f, definitions, t)
+}
+
+/// Damage of many kinds to a prelude, most of it to one definition, with its length as it was or not.
+pub fn damage_prelude(r: &mut Prng, prelude: &mut Vec<u8>) {
+    // where each definition begins, as long as the bytes are there
+    let mut starts = Vec::new();
+    let mut at = 2;
+    while prelude.len() >= at + 4 { starts.push(at); at += 4 + 3 * u16::from_le_bytes([prelude[at + 2], prelude[at + 3]]) as usize; }
+    for _ in 0..r.between(1, 3) {
+        let one = starts.get(r.below(starts.len().max(1))).copied().filter(|&at| at + 7 <= prelude.len());
+        match (r.below(12), one) {
+            (0, _) => { let k = r.below(prelude.len() + 1); prelude.truncate(k); }
+            (1, _) => for _ in 0..r.between(1, 5) { prelude.push(r.next() as u8); },
+            (2, _) if prelude.len() >= 2 => { let k = r.below(2); prelude[k] = prelude[k].wrapping_add([1, 255, r.next() as u8][r.below(3)]); }
+            (3, _) if !prelude.is_empty() => { let k = r.below(prelude.len()); prelude[k] ^= 1 << r.below(8); }
+            // the f field alone, the n field alone
+            (4, Some(at)) => prelude[at] = prelude[at].wrapping_add([1, 255, 64][r.below(3)]),
+            (5, Some(at)) => { let k = at + 1 + r.below(3); prelude[k] = r.next() as u8; }
+            // one definition is the free name 0, which is no abstraction, or a function with another f, or is damaged as a file may be
+            (6..=10, Some(at)) => {
+                let end = (at + 4 + 3 * u16::from_le_bytes([prelude[at + 2], prelude[at + 3]]) as usize).min(prelude.len());
+                let mut bytes = prelude[at..end].to_vec();
+                match r.below(3) {
+                    0 => bytes = canonical(1, &v(0)).file(),
+                    1 => bytes = canonical(r.below(5), &id()).file(),
+                    _ => damage(r, &mut bytes),
+                }
+                prelude.splice(at..end, bytes);
+            }
+            _ => {}
+        }
+        if r.one_in(2) { break; }
+    }
+}
+
 /// Damage of many kinds to the bytes of a file.
 pub fn damage(r: &mut Prng, bytes: &mut Vec<u8>) {
     for _ in 0..r.between(1, 2) {

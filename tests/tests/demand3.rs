@@ -1,14 +1,16 @@
 //! Demand 3 watched from outside, on both machines: for small terms every budget from 0 to the betas needed and one more, and
 //! stores that end the run before each enter and each subst. Counts and figures against the second implementation's; its
 //! state, decoded, against the calculus's term after as many steps as there were betas; and at each state where the nodes are.
+//! With definitions the calculus begins at the term with these put in.
 use glow_tests::calculus;
 use glow_tests::case::{print_notes, Case};
 use glow_tests::enumerate::All;
 use glow_tests::families::small_members;
 use glow_tests::file::check;
-use glow_tests::flat::{canonical, from_text, Flat};
+use glow_tests::flat::{canonical, from_text, Flat, F};
 use glow_tests::machine::*;
 use glow_tests::painted::with_large_stack;
+use glow_tests::prelude;
 use glow_tests::prng::Prng;
 use glow_tests::random;
 
@@ -46,15 +48,15 @@ struct Nodes { held: Vec<bool> }
 impl Nodes {
     /// Each node taken is part of exactly one code that the state holds, or has been used up once for all: an enter, a beta and a subst use
     /// up one each, and on demand a beta that makes no entry drops its variable too. There no entry has a single node, as a bare variable
-    /// would have; an abstraction has at least two.
-    fn follow(&mut self, rules: Rules, m: &Machine) {
+    /// would have; an abstraction has at least two. So many entries are definitions, which no beta has made.
+    fn follow(&mut self, rules: Rules, definitions: usize, m: &Machine) {
         let entries = m.entries();
         let mut held = vec![false; m.figures.nodes as usize];
         for &node in m.code_and_dump().iter().chain(&entries).flatten() {
             assert!(!std::mem::replace(&mut held[node as usize], true), "a node is held twice");
         }
         assert!(self.held.iter().zip(&held).all(|(before, now)| *before || !now), "a node that was used up is held");
-        let dropped = match rules { Rules::First => 0, Rules::OnDemand => m.counts.beta - entries.len() as u64 };
+        let dropped = match rules { Rules::First => 0, Rules::OnDemand => m.counts.beta + definitions as u64 - entries.len() as u64 };
         let used = m.counts.enter + m.counts.beta + m.counts.subst + dropped;
         assert_eq!(held.iter().filter(|held| !**held).count() as u64, used, "the nodes that no code has, and those used up");
         assert!(rules == Rules::First || entries.iter().all(|nodes| nodes.len() > 1), "an entry of a single node");
@@ -66,20 +68,24 @@ impl Nodes {
 
 /// Gives how many states were compared, on both machines.
 fn watch_both(f: usize, t: &Flat, budget: u32, most_nodes: u64, with_steps: bool) -> u64 {
-    BOTH.iter().map(|&rules| watch(rules, f, t, budget, most_nodes, with_steps)).sum()
+    BOTH.iter().map(|&rules| watch(rules, None, f, t, budget, most_nodes, with_steps)).sum()
 }
 
-fn watch(rules: Rules, f: usize, t: &Flat, budget: u32, most_nodes: u64, with_steps: bool) -> u64 {
+fn watch(rules: Rules, definitions: Option<&[Flat]>, f: usize, t: &Flat, budget: u32, most_nodes: u64, with_steps: bool) -> u64 {
     let file = canonical(f, t).file();
-    let parsed = check(&file).unwrap();
+    let prelude = definitions.map(|all| prelude::encode(&all.iter().enumerate().map(|(k, t)| canonical(k, t).file()).collect::<Vec<_>>()));
+    let given = prelude.as_deref().unwrap_or(prelude::NONE);
+    let (read, read_definitions) = prelude::read(given, &file).unwrap();
+    let Some(whole) = prelude::put_in(&read, &read_definitions) else { return 0 };
+    let case = |budget: u32, lengths: Lengths| Case { prelude: prelude.as_deref(), ..Case::new(rules, &file, budget, lengths) };
     let lengths = Lengths::of(2000, 600, 1000, 1000, 600);
-    let mut term = calculus::from_file(&parsed);
+    let mut term = calculus::from_file(&check(&whole.file()).unwrap());
     let mut shown = calculus::to_canonical(f, &term);
     let (mut beta, mut too_large, mut states) = (0u64, false, 0u64);
     let mut prefixes: Vec<Prefix> = Vec::new();
     let mut nodes = Nodes::default();
-    let answer = evaluate_watched(rules, &file, budget, &lengths, |m| {
-        nodes.follow(rules, m);
+    let answer = evaluate_with_watched(rules, given, &file, budget, &lengths, |m| {
+        nodes.follow(rules, read_definitions.len(), m);
         prefixes.push(Prefix::of(m));
         if too_large { return; }
         while beta < m.counts.beta {
@@ -97,12 +103,12 @@ fn watch(rules: Rules, f: usize, t: &Flat, budget: u32, most_nodes: u64, with_st
     for (k, prefix) in prefixes.iter().enumerate() {
         for (lengths, outcome) in prefix.ends(lengths) {
             let want = Answer::Ran(Run { outcome, ..prefix.run.clone() });
-            Case::new(rules, &file, prefix.run.counts.beta as u32, lengths).garbage(k as u64).check_against(&want);
+            case(prefix.run.counts.beta as u32, lengths).garbage(k as u64).check_against(&want);
         }
     }
     if answer.run().outcome != Outcome::Spent {
         let betas = answer.run().counts.beta as u32;
-        for budget in [betas, betas + 1] { Case::new(rules, &file, budget, lengths).check_against(&answer); }
+        for budget in [betas, betas + 1] { case(budget, lengths).check_against(&answer); }
     }
     states
 }
@@ -148,6 +154,47 @@ fn random_terms() {
     });
 }
 
+/// All small terms with all small definitions.
+#[test]
+fn small_definitions() {
+    with_large_stack(|| {
+        let mut all = All::default();
+        let (mut preludes, mut terms, mut states) = (0u64, 0u64, 0u64);
+        for (nodes, f, most) in [(vec![4], 1, 6), (vec![4], 2, 5), (vec![3, 4], 2, 5), (vec![3, 4], 3, 4)] {
+            let mut these: Vec<Vec<Flat>> = vec![vec![]];
+            for (k, &nodes) in nodes.iter().enumerate() {
+                let next: Vec<Flat> = (2..=nodes).flat_map(|n| all.terms(k, n).to_vec()).filter(|t| matches!(t[0], F::L(_))).collect();
+                these = these.iter().flat_map(|before| next.iter().map(|one| [&before[..], std::slice::from_ref(one)].concat()).collect::<Vec<_>>()).collect();
+            }
+            preludes += these.len() as u64;
+            for t in (1..=most).flat_map(|n| all.terms(f, n).to_vec()) {
+                for definitions in &these {
+                    terms += 1;
+                    for rules in BOTH { states += watch(rules, Some(definitions), f, &t, 6, 500, true); }
+                }
+            }
+        }
+        println!("{preludes} preludes, {terms} terms with one of them, {states} states");
+        print_notes();
+    });
+}
+
+#[test]
+fn random_definitions() {
+    with_large_stack(|| {
+        let (mut terms, mut states) = (0u64, 0u64);
+        let mut r = Prng(5);
+        while terms < 2000 {
+            let (f, definitions, t) = random::with_definitions(&mut r);
+            if t.len() > 80 || f > 500 || definitions.iter().any(|t| t.len() > 60) || definitions.len() > 20 { continue; }
+            terms += 1;
+            for rules in BOTH { states += watch(rules, Some(&definitions), f, &t, 25, 1500, false); }
+        }
+        println!("{terms} random terms with definitions, {states} states");
+        print_notes();
+    });
+}
+
 /// `consults_chain` can see something. One rule is weakened: a variable with an abstraction as entry leaves like an inert one, and is
 /// not copied, where the stack is empty. Then (\x. (\y. y z) x) (\w. w) comes to y, whose entry holds x, whose entry holds \w. w,
 /// and stops there, at a term that is no fireball. By the five rules it ends at z, and no state of its run consults a chain. On demand
@@ -156,7 +203,7 @@ fn random_terms() {
 fn a_weakened_rule_meets_a_chain() {
     use Step::*;
     let file = from_text(1, "a7 l1 a4 l2 a1 v2 v0 v1 l3 v3").file();
-    let mut m = Machine::start(Rules::First, &check(&file).unwrap());
+    let mut m = Machine::start(Rules::First, &check(&file).unwrap(), &[]);
     for (fits, made) in [(Enter, Enter), (LeaveFun, LeaveFun), (Beta, Beta), (Enter, Enter), (Subst, LeaveInert), (Beta, Beta), (Enter, Enter), (LeaveInert, LeaveInert)] {
         assert!(m.fits() == Some(fits) && !m.consults_chain());
         m.make_step(made);

@@ -152,10 +152,15 @@ mod library {
         let lengths = [0, 1, 3, 4, 7, 8, 63, 64, 1000, 16_384, 32_767, 32_768, 32_772, 100_000];
         for nodes in lengths { for cells in lengths { told += &format!("{nodes} {cells} {}\n", glow::stack_needed(nodes, cells)); } }
         told += &format!("{} {}\n", glow::Stores::glow().stack_needed(), glow::MOST_STACK_NEEDED);
+        for nodes in lengths { told += &format!("{}\n", glow::stack_needed_with(nodes)); }
         // the two machines' numbers and the status without one, and that status
         told += &format!("{} {} 5\n5\n", glow::Machine::First.number(), glow::Machine::OnDemand.number());
         // on each machine: a report that is too short, no file, no nodes, and a file that needs no cell
         told += &"4\n3 1\n2 9\n0 1\n".repeat(2);
+        // with a prelude: the refusals' numbers and a number without a machine; on each machine a report that is too short, no file, no prelude,
+        // a definition and no nodes, and a file with no definition
+        told += &format!("{} {} {}\n5\n", glow::PreludeRefusal::Bytes.number(), glow::PreludeRefusal::NotAnAbstraction.number(), glow::PreludeRefusal::Place.number());
+        told += &"4\n3 1\n3 17\n2 9\n0 1\n".repeat(2);
         told += &format!("{} {} {} {} {}\n", glow::EXCHANGE_REPORT_LEN, glow::STACK_FOR_AN_EXCHANGE, glow::MOST_IMPORTED, glow::MOST_EXPORTED, glow::MOST_NODES_IN_A_FILE);
         told += &format!("{} {} {}\n", glow::ExchangeRefusal::BitsTooShort.number(), glow::ExchangeRefusal::Padding.number(), glow::ExchangeRefusal::BitsLimits.number());
         // of import and export the statuses; a report that is too short; no bits, no room, no file, no room

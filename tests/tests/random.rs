@@ -25,7 +25,7 @@ fn cases(rules: Rules, seed: u64, terms: usize) {
             let garbage = match r.below(8) { 0 => 0, 1 => 1, 2 => 2, _ => r.next() };
             let report_len = match r.below(40) { 0 => r.below(12), 1 => 13, 2 => 20, _ => 12 };
             let nulls = garbage % 2 == 1;
-            let a = Case { rules, file: &file, budget, lengths, garbage, report_len, nulls }.check();
+            let a = Case { rules, prelude: None, file: &file, budget, lengths, garbage, report_len, nulls }.check();
             kinds[a.kind()] += 1;
             done += 1;
         }

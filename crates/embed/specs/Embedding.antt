@@ -1,5 +1,5 @@
 -- What a call from another language returns: a status, and numbers in the report array.
--- Letters: M is a machine, k the number of one, s are the file's bytes, q is the status, m and m′ what the stores hold before and after, r
+-- Letters: M is a machine, k the number of one, g is what the bytes give, q is the status, m and m′ what the stores hold before and after, r
 -- and r′ the report array.
 use Prim.Native.Nat.{ℕ, _≤_, _<_}
 use mathlib.Core.Path.{_≡_}
@@ -27,7 +27,7 @@ outcomeStatus (machine.normal n) = 0
 outcomeStatus machine.spent = 1
 outcomeStatus (machine.refused k) = 2
 
--- 3 where the file is refused
+-- 3 where the term file or the prelude is refused
 abbrev pub statusOf : machine.Answer → ℕ
 statusOf (machine.number-alone k) = 3
 statusOf (machine.report r) = outcomeStatus (r .outcome)
@@ -43,7 +43,7 @@ writtenOf (machine.normal n) = n
 writtenOf machine.spent = 0
 writtenOf (machine.refused k) = 0
 
--- what is written to the report array: of a refused file the number alone, and else all that a run returns
+-- what is written to the report array: of refused bytes the number alone, and else all that a run returns
 abbrev pub numbersOf : machine.Answer → List ℕ
 numbersOf (machine.number-alone k) = k ∷ []
 numbersOf (machine.report r) =
@@ -57,20 +57,20 @@ pub record NoSuchMachine (q : ℕ) (m m′ : Memory) (r r′ : List ℕ) : Type 
   pub memory-kept : m′ ≡ m
 
 -- of a call on the machine M
-pub record EmbeddedOn (M : Machine) (s : List ℕ) (budget q : ℕ) (m m′ : Memory) (r r′ : List ℕ) : Type 0 where
+pub record EmbeddedOn (M : Machine) (g : machine.Given) (budget q : ℕ) (m m′ : Memory) (r r′ : List ℕ) : Type 0 where
   -- a report array of fewer than 12 elements is refused with the status 4, and nothing is touched
   pub short-status : length r < 12 → q ≡ 4
   pub short-report : length r < 12 → r′ ≡ r
   pub short-memory : length r < 12 → m′ ≡ m
   -- else all that is promised of a call on the machine holds, and the status and the numbers are those of its answer
-  pub called : 12 ≤ length r → (a : Answer) × Called M s budget a m m′
-  pub status : 12 ≤ length r → q ≡ statusOf (answer M s budget (storesIn m))
-  pub numbers : 12 ≤ length r → r′ ≡ overlay (numbersOf (answer M s budget (storesIn m))) r
+  pub called : 12 ≤ length r → (a : Answer) × Called M g budget a m m′
+  pub status : 12 ≤ length r → q ≡ statusOf (answer M g budget (storesIn m))
+  pub numbers : 12 ≤ length r → r′ ≡ overlay (numbersOf (answer M g budget (storesIn m))) r
 
 -- of a call with a number, by what it names
-pub data EmbeddedBy (s : List ℕ) (budget q : ℕ) (m m′ : Memory) (r r′ : List ℕ) : Named → Type 0 where
-  on-machine : (M : Machine) → EmbeddedOn M s budget q m m′ r r′ → EmbeddedBy s budget q m m′ r r′ (Known M)
-  no-machine : NoSuchMachine q m m′ r r′ → EmbeddedBy s budget q m m′ r r′ Unknown
+pub data EmbeddedBy (g : machine.Given) (budget q : ℕ) (m m′ : Memory) (r r′ : List ℕ) : Named → Type 0 where
+  on-machine : (M : Machine) → EmbeddedOn M g budget q m m′ r r′ → EmbeddedBy g budget q m m′ r r′ (Known M)
+  no-machine : NoSuchMachine q m m′ r r′ → EmbeddedBy g budget q m m′ r r′ Unknown
 
-abbrev pub Embedded : ℕ → List ℕ → ℕ → ℕ → Memory → Memory → List ℕ → List ℕ → Type 0
-Embedded k s budget q m m′ r r′ = EmbeddedBy s budget q m m′ r r′ (namedBy k)
+abbrev pub Embedded : ℕ → machine.Given → ℕ → ℕ → Memory → Memory → List ℕ → List ℕ → Type 0
+Embedded k g budget q m m′ r r′ = EmbeddedBy g budget q m m′ r r′ (namedBy k)

@@ -13,9 +13,11 @@
 //! [`Stores::evaluate`] may be called on any thread. Where the thread may have too little stack for what the stores can
 //! hold, the call is made on another one: see [`stack_needed`].
 //!
+//! [`Stores::evaluate_with`] evaluates a term with named definitions, a prelude.
+//!
 //! [`import`] and [`export`] bring terms over from binary lambda calculus, and back.
 //!
-//! Two kinds of places are `unsafe`: the calls of the three C functions, which are lent slices that are live for the whole
+//! Two kinds of places are `unsafe`: the calls of the four C functions, which are lent slices that are live for the whole
 //! call, each with its own length, and never two that overlap; and, on Linux, calls of the C library that tell where a
 //! thread's stack ends.
 
@@ -28,7 +30,7 @@ pub use exchange::{
     export, export_in, export_to_vec, import, import_in, import_to_vec, ExchangeRefusal, ExchangeStatus, Exchanged,
     EXCHANGE_REPORT_LEN, MOST_EXPORTED, MOST_IMPORTED, STACK_FOR_AN_EXCHANGE,
 };
-pub use stack::{stack_needed, MOST_STACK_NEEDED, STACK_FOR_A_CALL, STACK_FOR_A_LEVEL};
+pub use stack::{stack_needed, stack_needed_with, MOST_STACK_NEEDED, STACK_FOR_A_CALL, STACK_FOR_A_LEVEL};
 
 /// Elements of the report array.
 pub const REPORT_LEN: usize = 12;
@@ -41,6 +43,16 @@ mod ffi {
     extern "C" {
         pub fn glow_evaluate(
             machine: u32, file: *const u8, file_len: usize, budget: u32,
+            tags: *mut u8, tags_len: usize, args: *mut u16, args_len: usize,
+            codes: *mut u16, codes_len: usize, owns: *mut u16, owns_len: usize,
+            nexts: *mut u16, nexts_len: usize,
+            places: *mut u16, places_len: usize,
+            renumber: *mut u16, renumber_len: usize,
+            out_tags: *mut u8, out_tags_len: usize, out_args: *mut u16, out_args_len: usize,
+            report: *mut u64, report_len: usize,
+        ) -> u32;
+        pub fn glow_evaluate_with(
+            machine: u32, prelude: *const u8, prelude_len: usize, file: *const u8, file_len: usize, budget: u32,
             tags: *mut u8, tags_len: usize, args: *mut u16, args_len: usize,
             codes: *mut u16, codes_len: usize, owns: *mut u16, owns_len: usize,
             nexts: *mut u16, nexts_len: usize,
@@ -62,14 +74,14 @@ pub enum Machine {
     /// Each beta step takes the same short time, however long the body is. To choose where functions are mostly applied, and
     /// where a run has to be the program's, step by step.
     ///
-    /// It makes at most (1 + b) V substs, with b the beta steps made and V the variables of the file.
+    /// It makes at most (1 + b) V substs, with b the beta steps made and V the variables of the file and of the definitions.
     First = 0,
     /// Fast GLAMOUR. A function is copied only where it is applied: one that is only passed along takes no further nodes and
     /// no further names. For that, a beta step whose argument is a name alone puts this name into the whole body at once,
     /// which takes time with the body's length. To choose where functions are mostly passed along, as long libraries do, or
     /// where the first machine is refused for want of nodes.
     ///
-    /// It makes at most 1 + b substs, however long the file is.
+    /// It makes at most 1 + b substs, however long the file and the definitions are.
     OnDemand = 1,
 }
 
@@ -90,12 +102,13 @@ impl Status {
             2 => Status::Refused,
             3 => Status::FileRefused,
             4 => Status::ReportTooShort,
-            other => panic!("glow_evaluate answered {other}, which is no status of this wrapper"),
+            other => panic!("an evaluation answered {other}, which is no status of this wrapper"),
         }
     }
 }
 
-/// Refusals 1 to 7: the file is not a term file. Nothing is run and no array is changed.
+/// Refusals 1 to 7: the file is not a term file. Nothing is run and no array is changed. With a prelude, 2 and 4 to 7 may also be those
+/// of a definition.
 #[derive(Clone, Copy, Debug, PartialEq, Eq)]
 pub enum FileRefusal {
     TooShort, Limits, Length, Tag, Shape, Binder, Unbound,
@@ -106,6 +119,25 @@ impl FileRefusal {
     pub fn of(number: u64) -> Option<FileRefusal> {
         use FileRefusal::*;
         [TooShort, Limits, Length, Tag, Shape, Binder, Unbound].into_iter().find(|r| u64::from(r.number()) == number)
+    }
+}
+
+/// Refusals 17 to 19: what goes with the file is not a prelude of it. Nothing is run and no array is changed.
+#[derive(Clone, Copy, Debug, PartialEq, Eq)]
+pub enum PreludeRefusal {
+    /// 17: there are more definitions than free names, or bytes are left over or missing.
+    Bytes,
+    /// 18: a definition is not an abstraction.
+    NotAnAbstraction,
+    /// 19: the f field of a definition is not its place.
+    Place,
+}
+
+impl PreludeRefusal {
+    pub fn number(self) -> u8 { self as u8 + 17 }
+    pub fn of(number: u64) -> Option<PreludeRefusal> {
+        use PreludeRefusal::*;
+        [Bytes, NotAnAbstraction, Place].into_iter().find(|r| u64::from(r.number()) == number)
     }
 }
 
@@ -211,6 +243,9 @@ impl Stores {
         stack_needed(self.tags.len().min(self.args.len()), self.codes.len().min(self.owns.len()).min(self.nexts.len()))
     }
 
+    /// The same of a call with a prelude: see [`stack_needed_with`].
+    pub fn stack_needed_with(&self) -> usize { stack_needed_with(self.tags.len().min(self.args.len())) }
+
     /// Evaluates a term file with this machine, with at most `budget` beta steps, on any thread. After the last of them the
     /// run goes on until no step fits, a store is full or another beta is next; so [`Outcome::Spent`] says that the term has
     /// a further beta step. Every call ends, whatever the budget.
@@ -239,6 +274,39 @@ impl Stores {
             &mut self.nexts, &mut self.places, &mut self.renumber, &mut self.out_tags,
             &mut self.out_args, &mut raw,
         );
+        self.answer(status, raw).expect("no refusal of a prelude without one")
+    }
+
+    /// As [`Stores::evaluate`], with a prelude: the 16-bit count d, little endian, and d term files one after the other.
+    /// Definition k is an abstraction that stands for the free name k, and its own f is k: it may use the names of those
+    /// before it. There may be fewer definitions than free names, and none: with the prelude `[0, 0]` the call is
+    /// [`Stores::evaluate`].
+    ///
+    /// Where no store refuses, the outcome, the beta steps and the term are those of the term with the definitions put in.
+    /// Loading takes the definitions' nodes too, and a name for each abstraction in them, but no cell.
+    ///
+    /// [`Answer::FileRefused`] may speak of a definition as well as of the file.
+    pub fn evaluate_with(&mut self, machine: Machine, prelude: &[u8], file: &[u8], budget: u32) -> Result<Answer, PreludeRefusal> {
+        stack::with_stack(self.stack_needed_with(), || self.evaluate_with_on_this_stack(machine, prelude, file, budget))
+    }
+
+    /// As [`Stores::evaluate_with`], on the thread that it is called on, however little stack that has.
+    ///
+    /// # Warning
+    ///
+    /// As of [`Stores::evaluate_on_this_stack`]: with less than [`Stores::stack_needed_with`] it may **end the process**.
+    pub fn evaluate_with_on_this_stack(&mut self, machine: Machine, prelude: &[u8], file: &[u8], budget: u32) -> Result<Answer, PreludeRefusal> {
+        let mut raw = [0u64; REPORT_LEN];
+        let status = evaluate_with_in_on_this_stack(
+            machine, prelude, file, budget, &mut self.tags, &mut self.args, &mut self.codes, &mut self.owns,
+            &mut self.nexts, &mut self.places, &mut self.renumber, &mut self.out_tags,
+            &mut self.out_args, &mut raw,
+        );
+        self.answer(status, raw)
+    }
+
+    /// What a call says, with the term that is now at the front of the output.
+    fn answer(&self, status: Status, raw: [u64; REPORT_LEN]) -> Result<Answer, PreludeRefusal> {
         let report = Report {
             beta: raw[2], subst: raw[3], enter: raw[4], leave_fun: raw[5], leave_inert: raw[6],
             nodes: raw[7], cells: raw[8], names: raw[9], subst_allowance: raw[10], shift_allowance: raw[11],
@@ -251,11 +319,14 @@ impl Stores {
             Status::Spent => Outcome::Spent,
             Status::Refused => Outcome::Refused(Refusal::of(raw[0]).expect("a refusal from 8 to 12")),
             Status::FileRefused => {
-                return Answer::FileRefused(FileRefusal::of(raw[0]).expect("a refusal from 1 to 7"))
+                return match PreludeRefusal::of(raw[0]) {
+                    Some(why) => Err(why),
+                    None => Ok(Answer::FileRefused(FileRefusal::of(raw[0]).expect("a refusal from 1 to 7 or from 17 to 19"))),
+                }
             }
             Status::ReportTooShort => unreachable!("the report has its twelve elements"),
         };
-        Answer::Ran { outcome, report }
+        Ok(Answer::Ran { outcome, report })
     }
 }
 
@@ -288,6 +359,45 @@ pub fn evaluate_in_on_this_stack(
     let number = unsafe {
         ffi::glow_evaluate(
             machine.number(), file.as_ptr(), file.len(), budget,
+            tags.as_mut_ptr(), tags.len(), args.as_mut_ptr(), args.len(),
+            codes.as_mut_ptr(), codes.len(), owns.as_mut_ptr(), owns.len(),
+            nexts.as_mut_ptr(), nexts.len(), places.as_mut_ptr(), places.len(),
+            renumber.as_mut_ptr(), renumber.len(),
+            out_tags.as_mut_ptr(), out_tags.len(), out_args.as_mut_ptr(), out_args.len(),
+            report.as_mut_ptr(), report.len(),
+        )
+    };
+    Status::of(number)
+}
+
+/// As [`evaluate_in`], with a prelude: see [`Stores::evaluate_with`].
+#[allow(clippy::too_many_arguments)]
+pub fn evaluate_with_in(
+    machine: Machine, prelude: &[u8], file: &[u8], budget: u32, tags: &mut [u8], args: &mut [u16], codes: &mut [u16],
+    owns: &mut [u16], nexts: &mut [u16], places: &mut [u16], renumber: &mut [u16], out_tags: &mut [u8],
+    out_args: &mut [u16], report: &mut [u64],
+) -> Status {
+    let needed = stack_needed_with(tags.len().min(args.len()));
+    stack::with_stack(needed, || evaluate_with_in_on_this_stack(
+        machine, prelude, file, budget, tags, args, codes, owns, nexts, places, renumber, out_tags, out_args, report,
+    ))
+}
+
+/// As [`evaluate_in_on_this_stack`], with a prelude.
+///
+/// # Warning
+///
+/// With less stack than [`stack_needed_with`] tells it may **end the process**.
+#[allow(clippy::too_many_arguments)]
+pub fn evaluate_with_in_on_this_stack(
+    machine: Machine, prelude: &[u8], file: &[u8], budget: u32, tags: &mut [u8], args: &mut [u16], codes: &mut [u16],
+    owns: &mut [u16], nexts: &mut [u16], places: &mut [u16], renumber: &mut [u16], out_tags: &mut [u8],
+    out_args: &mut [u16], report: &mut [u64],
+) -> Status {
+    // SAFETY: as in `evaluate_in_on_this_stack`.
+    let number = unsafe {
+        ffi::glow_evaluate_with(
+            machine.number(), prelude.as_ptr(), prelude.len(), file.as_ptr(), file.len(), budget,
             tags.as_mut_ptr(), tags.len(), args.as_mut_ptr(), args.len(),
             codes.as_mut_ptr(), codes.len(), owns.as_mut_ptr(), owns.len(),
             nexts.as_mut_ptr(), nexts.len(), places.as_mut_ptr(), places.len(),

@@ -22,6 +22,11 @@
 //!
 //! Only a name that is the whole result has three, and the deepest call has one more that is not in the list.
 //!
+//! A definition takes no cell, so with a prelude cells do not limit the calls, but nodes do: where a name stands for a
+//! definition, the definition's own nodes are in the place of the enter and the beta above, and a definition names only those
+//! before it. One that goes on to another by a call has an abstraction, an application, the name, and a node behind the name,
+//! since at a code's last node no call is made.
+//!
 //! No function of an import or an export calls itself: see [`STACK_FOR_AN_EXCHANGE`](crate::STACK_FOR_AN_EXCHANGE).
 
 use std::ops::Range;
@@ -45,6 +50,9 @@ pub const fn stack_needed(nodes: usize, cells: usize) -> usize {
     let levels = if cells < nodes / 4 { cells } else { nodes / 4 };
     STACK_FOR_A_CALL + STACK_FOR_A_LEVEL * levels
 }
+
+/// The most bytes of stack that an evaluation with a prelude takes with a node store of this length, whatever its cells are.
+pub const fn stack_needed_with(nodes: usize) -> usize { stack_needed(nodes, super::MOST_COUNTED) }
 
 /// Left over beside what is needed: for the wrapper's own frames, a guard page, and a signal that arrives.
 const MARGIN: usize = 16 << 10;

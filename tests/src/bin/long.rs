@@ -30,7 +30,7 @@ fn random_cases() {
             let lengths = random::lengths(&mut r, full);
             let budget = random::budget(&mut r, full, MOST);
             let (garbage, report_len) = (if r.one_in(4) { r.below(3) as u64 } else { r.next() }, if r.one_in(40) { r.below(20) } else { 12 });
-            kinds[Case { rules: *rules, file: &file, budget, lengths, garbage, report_len, nulls: garbage % 2 == 1 }.check().kind()] += 1;
+            kinds[Case { rules: *rules, prelude: None, file: &file, budget, lengths, garbage, report_len, nulls: garbage % 2 == 1 }.check().kind()] += 1;
             done += 1;
             if done % 100_000 == 0 { println!("{done} cases, normal {} spent {} refusals 1.. {:?}", kinds[0], kinds[14], &kinds[1..13]); }
         }

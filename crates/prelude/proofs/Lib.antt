@@ -1,0 +1,9 @@
+pub mod Files
+pub mod Fields
+pub mod Refusals
+pub mod Told
+pub mod Acceptance
+pub mod Totals
+pub mod Numbers
+pub mod Empty
+pub mod Examples
