@@ -12,6 +12,8 @@ use Rattle.termfile.specs.Output.{overlay}
 use Rattle.machine.specs.declared.Machine.the-variants.{First}
 use Rattle.machine.specs.Glow.{million, glow}
 use Rattle.evaluator.specs.Calling.{told}
+use Rattle.machine.specs.Answer.{fileGiven}
+use Rattle.evaluator.proofs.Promises.{file-few}
 use Rattle.evaluator.specs.Promise.{Memory, storesIn, Called}
 use Rattle.evaluator.specs.declared.Answer.{Answer}
 use Rattle.rendering.specs.Lines.{lines, textOf}
@@ -43,12 +45,12 @@ fits : (n k : ℕ) → (k < n → ⊥) → (b : Bool) → leb n k ≡ b → n �
 fits n k not true e = leb-true n k e
 fits n k not false e = absurd (not (leb-false n k e))
 
-pub tells : {s : List ℕ} {a : Answer} {m m′ : Memory} {q : Rendered} {l l′ : List ℕ} → GlowLengths m → Called First s million a m m′
+pub tells : {s : List ℕ} {a : Answer} {m m′ : Memory} {q : Rendered} {l l′ : List ℕ} → GlowLengths m → Called First (fileGiven s) million a m m′
     → Renders (told a) (m′ .output-tags) (m′ .output-arguments) q l l′ → Tells s q l l′
 tells {s} {a} {m} {m′} {q} {l} {l′} g c r =
-    let given = called-given (omega arith) c .tellable in
+    let given = called-given (omega arith) (file-few s) c .tellable in
     let same : lines (told a) (nodesIn (told a) (m′ .output-tags) (m′ .output-arguments)) ≡ glowText s =
-    called-text (omega arith) c ∙ ap (textOf First s million) (stores-are m g) in
+    called-text (omega arith) (file-few s) c ∙ ap (textOf First (fileGiven s) million) (stores-are m g) in
     let short : length l < length (glowText s) → q ≡ TooShort = subst (λ t. length l < length t → q ≡ TooShort) same (r .short given) in
     record {
       written = subst (λ t. length t ≤ length l → q ≡ Written (length t)) same (r .written given);

@@ -6,6 +6,7 @@ use mathlib.Core.List.{List}
 use lib.ListN.{length}
 use Rattle.termfile.specs.Output.{overlay}
 use Rattle.machine.specs.declared.Machine.the-variants.{First}
+use Rattle.machine.specs.Answer.{fileGiven}
 use Rattle.machine.specs.Glow.{million, glow}
 use Rattle.rendering.specs.Lines.{textOf}
 use Rattle.rendering.specs.Promise.{longestText}
@@ -14,7 +15,7 @@ use Rattle.rendering.specs.declared.Rendered.the-variants.{Written, TooShort}
 
 -- 01, Runs worked through: the lines for these bytes, on the first machine with glow's budget and stores
 abbrev pub glowText : List ℕ → List ℕ
-glowText s = textOf First s million glow
+glowText s = textOf First (fileGiven s) million glow
 
 pub record Tells (s : List ℕ) (q : Rendered) (l l′ : List ℕ) : Type 0 where
   -- an array that is long enough begins with the text afterwards, and nothing past it changes

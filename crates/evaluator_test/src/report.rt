@@ -65,16 +65,20 @@ struct Left {
     output: usize,
 }
 
+// A refusal that returns its number alone, and leaves every array as it was.
+fn write_alone(number: u64) -> Left {
+    write_number(b": refused ", number);
+    Left {
+        stores: true,
+        renumber: true,
+        output: 0,
+    }
+}
+
 fn write_answer(answer: Answer, out_tags: &[u8; 33000], out_args: &[u16; 33000]) -> Left {
     match answer {
-        Answer::FileRefused(why) => {
-            write_number(b": refused ", termfile::number(why));
-            Left {
-                stores: true,
-                renumber: true,
-                output: 0,
-            }
-        }
+        Answer::FileRefused(why) => write_alone(termfile::number(why)),
+        Answer::PreludeRefused(why) => write_alone(prelude::number(why)),
         Answer::Ran(report) => write_report(report, out_tags, out_args),
     }
 }

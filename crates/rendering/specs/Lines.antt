@@ -7,7 +7,7 @@ use mathlib.Core.List.{List, [], _∷_, _++_, map}
 use Rattle.termfile.specs.Nodes.{Node}
 use Rattle.machine.specs.declared.Machine.{Machine}
 use Rattle.machine.specs.Run.{Stores}
-use Rattle.machine.specs.Answer.{Outcome, normal, spent, refused, Report, Answer, number-alone, report, answer, written}
+use Rattle.machine.specs.Answer.{Given, Outcome, normal, spent, refused, Report, Answer, number-alone, report, answer, written}
 use Rattle.rendering.specs.Decimal.{decimal}
 
 -- the codes of a text's characters
@@ -83,5 +83,5 @@ lines (number-alone k) ns = refusedLine k
 lines (report r) ns = outcomeLine (r .outcome) ++ countLines r ++ termLine (r .outcome) ns
 
 -- the text of a call
-unfoldable pub textOf : Machine → List ℕ → ℕ → Stores → List ℕ
-textOf M s budget st = lines (answer M s budget st) (written M s budget st)
+unfoldable pub textOf : Machine → Given → ℕ → Stores → List ℕ
+textOf M g budget st = lines (answer M g budget st) (written M g budget st)

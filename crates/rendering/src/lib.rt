@@ -110,6 +110,7 @@ pub fn render(answer: Answer, tags: &[u8], args: &[u16], out: &mut [u8]) -> Rend
 {
     match answer {
         Answer::FileRefused(why) => render_number(termfile::number(why), out),
+        Answer::PreludeRefused(why) => render_number(prelude::number(why), out),
         Answer::Ran(report) => render_report(report, tags, args, out),
     }
 }

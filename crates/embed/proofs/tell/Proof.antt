@@ -1,72 +1,80 @@
+-- `embed::tell` meets its contract, case by case. Assumes nothing.
+use Prim.Native.Nat.{ℕ, _≤_}
+use mathlib.Core.Path.{_≡_, sym, ap, _∙_}
+use mathlib.Core.List.{List, [], _∷_}
+use native.Mathlib.Omega.{arith}
 use borrow.Author.Needs.{needs}
+use lib.ListN.{length, set}
+use lib.Seq.{sets-eq}
+use Rattle.termfile.specs.Output.{overlay}
+use Rattle.evaluator.specs.Calling.{told}
+use Rattle.embed.specs.Embedding.{statusOf, numbersOf}
 use Rattle.embed.proofs.tell.Statement.{statement}
 use Rattle.embed.proofs.tell.Tie as tie
-use Rattle.embed.proofs.tell.Reads as reads
-use Rattle.embed.proofs.tell.Lts as lts
-use Rattle.embed.proofs.status_of.Reads as status-of-reads
-use Rattle.embed.proofs.write_report.Reads as write-report-reads
-use Rattle.prelude.proofs.number.Reads as number-reads
-use Rattle.termfile.proofs.number.Reads as number-reads′
 
--- src/lib.rt:98:29
+-- a number alone, at the front of the report array
+alone : (k n : ℕ) (r : List ℕ) → n ≡ k → 12 ≤ length r → set r 0 n ≡ overlay (k ∷ []) r
+alone k n r e long = ap (set r 0) e ∙ sets-eq (k ∷ []) r 0 (omega (arith, long))
+
 enum-known-answer : tie.Need-enum-known-answer
-enum-known-answer c = search needs
+enum-known-answer c = c .match .keys1
 
--- src/lib.rt:99:25
 number-requires : tie.Need-number-requires
-number-requires c κs = search needs
+number-requires c κs = tt
 
--- src/lib.rt:99:13
 slice-write-report : tie.Need-slice-write-report
-slice-write-report c = search needs
+slice-write-report c = omega (arith, c .before .before .before .before .before .pre)
 
--- src/lib.rt:102:32
 enum-known-answer-2 : tie.Need-enum-known-answer-2
-enum-known-answer-2 c = search needs
+enum-known-answer-2 c = c .match .keys2
 
--- src/lib.rt:103:25
 number-requires-2 : tie.Need-number-requires-2
-number-requires-2 c κs = search needs
+number-requires-2 c κs = tt
 
--- src/lib.rt:103:13
 slice-write-report-2 : tie.Need-slice-write-report-2
-slice-write-report-2 c = search needs
+slice-write-report-2 c = omega (arith, c .before .before .before .before .before .pre)
 
--- src/lib.rt:106:21
 enum-known-answer-3 : tie.Need-enum-known-answer-3
-enum-known-answer-3 c = search needs
+enum-known-answer-3 c = c .match .keys3
 
--- src/lib.rt:108:13
 write-report-requires : tie.Need-write-report-requires
-write-report-requires c κs = search needs
+write-report-requires c κs = c .before .before .before .before .before .pre
 
--- src/lib.rt:109:13
 status-of-requires : tie.Need-status-of-requires
-status-of-requires c κs = search needs
+status-of-requires c κs = tt
 
--- src/lib.rt:92:1
 same-length : tie.Need-same-length
 same-length c = search needs
 
--- src/lib.rt:92:1
 returns : tie.Need-returns
-returns c = ?
+returns c =
+    let g = c .before .before .before .before .before in
+    let e = ap told (c .before .before .answer .given .1) in (
+      sym (ap statusOf e),
+      alone _ _ (g .args .report .now) (c .number .ensures) (g .pre) ∙ ap (λ v. overlay (numbersOf v) (g .args .report .now)) (sym e),
+    )
 
--- src/lib.rt:92:1
 same-length-2 : tie.Need-same-length-2
 same-length-2 c = search needs
 
--- src/lib.rt:92:1
 returns-2 : tie.Need-returns-2
-returns-2 c = ?
+returns-2 c =
+    let g = c .before .before .before .before .before in
+    let e = ap told (c .before .before .answer2 .given .1) in (
+      sym (ap statusOf e),
+      alone _ _ (g .args .report .now) (c .number2 .ensures) (g .pre) ∙ ap (λ v. overlay (numbersOf v) (g .args .report .now)) (sym e),
+    )
 
--- src/lib.rt:92:1
 same-length-3 : tie.Need-same-length-3
 same-length-3 c = search needs
 
--- src/lib.rt:92:1
 returns-3 : tie.Need-returns-3
-returns-3 c = ?
+returns-3 c =
+    let g = c .before .before .before .before .before .before .before .before .before in
+    let e = ap told (c .before .before .before .before .before .before .answer3 .given .1) in (
+      c .status-of .ensures ∙ sym (ap statusOf e),
+      c .before .before .before .write-report .ensures ∙ ap (λ v. overlay (numbersOf v) (g .args .report .now)) (sym e),
+    )
 
 pub tell-spec : {M : Type 1} → statement M
 tell-spec =
