@@ -3,7 +3,7 @@ use crate::links::links_lead;
 use crate::named::{arrays, constants, definitions, header_table, promises, sentences};
 use crate::shown::{outputs, pairs, Place};
 use crate::tried::{
-    byte_by_byte, prelude_byte_by_byte, refusals, refusals_in_c, step_by_step, step_by_step_on_demand, worked_imports, worked_preludes, worked_runs, worked_runs_on_demand, worked_runs_with_definitions,
+    byte_by_byte, prelude_byte_by_byte, refusals, refusals_in_c, step_by_step, step_by_step_on_demand, step_by_step_with_definitions, worked_imports, worked_preludes, worked_runs, worked_runs_on_demand, worked_runs_with_definitions,
 };
 use crate::{header, manual, Checked};
 use glow_tests::process::root;
@@ -67,6 +67,8 @@ fn mistakes_are_found_out() {
     found_out(step_by_step, "| leave-inert | `v1` |", "| leave-fun | `v1` |");
     found_out(step_by_step, "| 11 3 4 |", "| 11 3 5 |");
     found_out(step_by_step_on_demand, "| leave-inert | `v0` | `v1` |", "| leave-fun | `v0` | `v1` |");
+    found_out(step_by_step_with_definitions, "1: `l4 a1 v0 v4` | 9 0 5 |", "1: `l1 a1 v0 v1` | 9 0 5 |");
+    found_out(step_by_step_with_definitions, "| `a2 l3 v3 v2` |", "| same |");
     found_out(byte_by_byte, "| 29 | `02 00` |", "| 29 | `03 00` |");
     found_out(prelude_byte_by_byte, "| 14 | `04 00` |", "| 14 | `03 00` |");
     found_out(prelude_byte_by_byte, "| 16 | `01 02", "| 15 | `01 02");

@@ -4,9 +4,9 @@ use glow_tests::binary::fitted;
 use glow_tests::case::{told, told_with, Case};
 use glow_tests::exchange::{check_wrapper, Exchange, Given};
 use glow_tests::flat::from_text;
-use glow_tests::machine::{evaluate_watched, Answer, Lengths, Outcome, Rules, Step, BOTH, GLOW_BUDGET};
+use glow_tests::machine::{evaluate_with_watched, Answer, Lengths, Outcome, Rules, Step, BOTH, GLOW_BUDGET};
 use glow_tests::markdown::quoted;
-use glow_tests::prelude::encode;
+use glow_tests::prelude::{encode, NONE};
 use glow_tests::process::{file_of, program, root, run};
 use std::process::Command;
 
@@ -256,10 +256,14 @@ fn step_name(step: Option<Step>) -> &'static str {
 
 const WORKED_FILE: &str = "examples/03-example-1.term";
 
+/// The prelude of the worked runs, and the term of the one that is shown step by step.
+fn worked_prelude() -> Vec<u8> { encode(&[from_text(0, "l0 v0").file(), from_text(1, "l1 a1 v0 v1").file()]) }
+fn worked_file() -> Vec<u8> { std::fs::read(root().join(WORKED_FILE)).unwrap() }
+
 /// The states of a run by the second implementation, as the manual's tables have them.
-fn states(rules: Rules, file: &[u8]) -> Vec<Vec<String>> {
+fn states(rules: Rules, prelude: &[u8], file: &[u8]) -> Vec<Vec<String>> {
     let (mut all, mut before, mut last) = (Vec::new(), None, String::new());
-    evaluate_watched(rules, file, GLOW_BUDGET, &Lengths::glow(), |m| {
+    evaluate_with_watched(rules, prelude, file, GLOW_BUDGET, &Lengths::glow(), |m| {
         let s = m.figures;
         let term = format!("`{}`", m.stands_for().text());
         let mut row = vec![step_name(before).to_string()];
@@ -272,12 +276,12 @@ fn states(rules: Rules, file: &[u8]) -> Vec<Vec<String>> {
     all
 }
 
-pub fn step_by_step(text: &str) -> Checked { steps(text, "step", Rules::First) }
-pub fn step_by_step_on_demand(text: &str) -> Checked { steps(text, "step on demand", Rules::OnDemand) }
+pub fn step_by_step(text: &str) -> Checked { steps(text, "step", states(Rules::First, NONE, &worked_file())) }
+pub fn step_by_step_on_demand(text: &str) -> Checked { steps(text, "step on demand", states(Rules::OnDemand, NONE, &worked_file())) }
+pub fn step_by_step_with_definitions(text: &str) -> Checked { steps(text, "step with definitions", states(Rules::First, &worked_prelude(), &from_text(3, "a1 v1 v2").file())) }
 
-fn steps(text: &str, head: &str, rules: Rules) -> Checked {
+fn steps(text: &str, head: &str, right: Vec<Vec<String>>) -> Checked {
     let rows = table(text, &[head, "code", "stack", "dump", "environment", "taken", "stands for"])?.rows;
-    let right = states(rules, &std::fs::read(root().join(WORKED_FILE)).unwrap());
     for (row, state) in rows.iter().zip(&right) { same("the run step by step", row, state)?; }
     same("the states", rows.len(), right.len())?;
     Ok(rows.len())
@@ -295,15 +299,11 @@ fn pieces(text: &str, head: &str, right: Vec<u8>) -> Checked {
     Ok(rows.len())
 }
 
-pub fn byte_by_byte(text: &str) -> Checked { pieces(text, "bytes", std::fs::read(root().join(WORKED_FILE)).unwrap()) }
-
-/// The prelude of the worked runs.
-pub fn prelude_byte_by_byte(text: &str) -> Checked {
-    pieces(text, "bytes of the prelude", encode(&[from_text(0, "l0 v0").file(), from_text(1, "l1 a1 v0 v1").file()]))
-}
+pub fn byte_by_byte(text: &str) -> Checked { pieces(text, "bytes", worked_file()) }
+pub fn prelude_byte_by_byte(text: &str) -> Checked { pieces(text, "bytes of the prelude", worked_prelude()) }
 
 #[test]
 fn the_worked_file() {
     assert_eq!((byte_by_byte(&manual()), step_by_step(&manual()), step_by_step_on_demand(&manual())), (Ok(12), Ok(11), Ok(10)));
-    assert_eq!(prelude_byte_by_byte(&manual()), Ok(9));
+    assert_eq!((prelude_byte_by_byte(&manual()), step_by_step_with_definitions(&manual())), (Ok(9), Ok(9)));
 }
