@@ -111,6 +111,7 @@ fn tell(answer: Answer, report: &mut [u64]) -> u32
     }
 }
 
+// Evaluates a term file with the definitions of a prelude, on the machine of this number.
 #[no_mangle]
 pub extern "C" fn glow_evaluate_with(
     machine: u32,
@@ -158,6 +159,7 @@ pub extern "C" fn glow_evaluate_with(
     tell(answer, report)
 }
 
+// Evaluates a term file without definitions: as `glow_evaluate_with` with the empty prelude.
 #[no_mangle]
 pub extern "C" fn glow_evaluate(
     machine: u32,

@@ -7,13 +7,10 @@ use mathlib.Core.Option.{Option, none, some}
 use native.Mathlib.Omega.{arith}
 use borrow.Author.Tests.{le-leb}
 use Rattle.termfile.specs.File.{freeNames, refusal}
-use Rattle.prelude.specs.Prelude.{definitions, orElse, preludeRefusal, refusalWith}
+use Rattle.prelude.specs.Prelude.{orElse, preludeRefusal, refusalWith}
 
 abbrev pub empty : List ℕ
 empty = 0 ∷ 0 ∷ []
-
-pub empty-definitions : definitions empty ≡ []
-empty-definitions = refl
 
 pub empty-accepted : (f : ℕ) → preludeRefusal f empty ≡ none
 unfolding preludeRefusal

@@ -59,13 +59,16 @@ rows =
     -- 17 of a later definition before 2 of an earlier one; 2 of an earlier one before 5 of a later one
     ∷ row 2 (2 ∷ 0 ∷ no-node ++ (1 ∷ 0 ∷ 2 ∷ [])) (some 17)
     ∷ row 2 (2 ∷ 0 ∷ no-node ++ (1 ∷ 0 ∷ 1 ∷ 0 ∷ 2 ∷ 1 ∷ 0 ∷ [])) (some 2)
+    -- 17 before 18: more definitions than free names, of which one is a variable
+    ∷ row 1 (2 ∷ 0 ∷ identity ++ variable-later) (some 17)
     -- a definition that is not an abstraction, and one with the f field of another place, where it may use its own name
     ∷ row 2 (2 ∷ 0 ∷ identity ++ variable-later) (some 18)
     ∷ row 1 (1 ∷ 0 ∷ constant-later) (some 19)
     ∷ row 2 (2 ∷ 0 ∷ identity ++ identity) (some 19)
-    -- 18 of a later definition before 19 of an earlier one, and 7 of a later one before 18 of an earlier one
+    -- 18 of a later definition before 19 of an earlier one, and 7 of a later one before 18, and before 19, of an earlier one
     ∷ row 2 (2 ∷ 0 ∷ identity-later ++ variable-later) (some 18)
     ∷ row 2 (2 ∷ 0 ∷ variable-later ++ (0 ∷ 0 ∷ 1 ∷ 0 ∷ 0 ∷ 0 ∷ 0 ∷ [])) (some 7)
+    ∷ row 2 (2 ∷ 0 ∷ identity-later ++ (0 ∷ 0 ∷ 1 ∷ 0 ∷ 0 ∷ 0 ∷ 0 ∷ [])) (some 7)
     ∷ []
 
 abbrev pub Right : List Row → Type 0
@@ -74,4 +77,4 @@ Right (r ∷ rs) = (preludeRefusal (r .free) (r .prelude) ≡ r .refusal) × Rig
 
 pub rows-right : Right rows
 unfolding preludeRefusal refusal
-rows-right = (refl, (refl, (refl, (refl, (refl, (refl, (refl, (refl, (refl, (refl, (refl, (refl, (refl, (refl, (refl, (refl, (refl, (refl, (refl, (refl, (refl, tt)))))))))))))))))))))
+rows-right = (refl, (refl, (refl, (refl, (refl, (refl, (refl, (refl, (refl, (refl, (refl, (refl, (refl, (refl, (refl, (refl, (refl, (refl, (refl, (refl, (refl, (refl, (refl, tt)))))))))))))))))))))))

@@ -1,4 +1,4 @@
--- Every answer that `evaluate` gives can be told, and the nodes at the front of the output arrays are those that the call writes. What is
+-- Every answer that `evaluate_with` gives can be told, and the nodes at the front of the output arrays are those that the call writes. What is
 -- used of the demands stands here: the result fits the output, what is written has as many nodes as the outcome says, and the shifting steps
 -- are within their allowance.
 -- Letters: P is a program, g what the bytes give, st the stores' lengths, a is the answer, ns are the nodes written, ts and ms the output arrays.

@@ -1,5 +1,5 @@
 -- The lines that tell an answer, as bytes of ASCII: 01, Runs worked through, what glow prints.
--- Letters: r is a report, ns the nodes of the normal form, s are a file's bytes, st the stores' lengths.
+-- Letters: r is a report, ns the nodes of the normal form, g is what the bytes of a call give, st the stores' lengths.
 use Prim.Native.Nat.{ℕ, zero, suc, _+_}
 use Prim.Native.Char.{code}
 use Prim.Native.String.{String, [] as nothing, _∷_ as _then_}

@@ -28,7 +28,7 @@ abbrev pub nodesIn : Answer → List ℕ → List ℕ → List Node
 nodesIn (number-alone k) ts ms = []
 nodesIn (report r) ts ms = nodesAt (nodesWritten (r .outcome)) ts ms
 
--- what every report of `evaluate` has, with the output arrays of its call (proofs/Given): the normal form fits into the output, and the sum
+-- what every report of `evaluate_with` has, with the output arrays of its call (proofs/Given): the normal form fits into the output, and the sum
 -- of the shifting steps is a number of 64 bits
 pub record Possible (r : Report) (ts ms : List ℕ) : Type 0 where
   pub within-limit : nodesWritten (r .outcome) ≤ outputLimit
@@ -52,7 +52,7 @@ pub record Renders (a : Answer) (ts ms : List ℕ) (q : Rendered) (l l′ : List
   -- one that is too short is said to be, and is as it was
   pub short : Tellable a ts ms → length l < length (lines a (nodesIn a ts ms)) → q ≡ TooShort
   pub short-kept : Tellable a ts ms → length l < length (lines a (nodesIn a ts ms)) → l′ ≡ l
-  -- so is one that is lent with an answer that is not so, which no call of `evaluate` gives
+  -- so is one that is lent with an answer that is not so, which no call of `evaluate_with` gives
   pub no-answer : (Tellable a ts ms → ⊥) → q ≡ NoAnswer
   pub no-answer-kept : (Tellable a ts ms → ⊥) → l′ ≡ l
   -- an array as long as the longest text is never too short

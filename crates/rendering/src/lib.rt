@@ -63,7 +63,7 @@ fn nodes_written(outcome: Outcome) -> usize
     }
 }
 
-// Renders the number of a refused file.
+// Renders the number of a refused file or prelude.
 fn render_number(k: u64, out: &mut [u8]) -> Rendered
     ensures { λ q. ⌜ ((ts ms : List ℕ) → Renders (number-alone k) ts ms q (now (out .entry)) (now (out .exit))) ⌝ }
 {

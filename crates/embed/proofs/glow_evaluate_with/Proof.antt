@@ -1,7 +1,6 @@
 -- `embed::glow_evaluate_with` meets its contract: what `evaluate_with` promises, with its answer put into numbers.
 -- Assumes nothing.
 use mathlib.Core.Path.{_≡_, sym, ap, _∙_}
-use Rattle.evaluator.specs.Calling.{told}
 use Rattle.termfile.specs.Output.{overlay}
 use Rattle.embed.specs.Embedding.{namedBy, statusOf, numbersOf}
 use Rattle.embed.specs.declared.Named.the-variants.{Known}
@@ -76,7 +75,7 @@ returns-3 c =
     let t = c .before .before in
     let d = evaluated t in
     let a = asked d in
-    let w = d .evaluate-with .ensures in
+    let w = d .evaluate-with .ensures .1 in
     let r = a .before .before .before .before .before .before .before .before .before .before .before .before .before .before .before .before .before .args .report .now in
     embeds-called (named-is (a .before)) (a .if1 .left) (d .evaluate-with .result) w (t .tell .ensures .0 ∙ ap statusOf (w .answer-is))
     (t .tell .ensures .1 ∙ ap (λ v. overlay (numbersOf v) r) (w .answer-is))

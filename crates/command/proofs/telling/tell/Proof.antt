@@ -61,7 +61,7 @@ returns c =
       output-tags = zeros 16384;
       output-arguments = zeros 16384;
     })
-    (c .before .before .before .before .before .before .before .before .before .before .before .before .before .before .before .evaluate .ensures) (c .before .before .render .ensures)
+    (c .before .before .before .before .before .before .before .before .before .before .before .before .before .before .before .evaluate .ensures .1) (c .before .before .render .ensures)
 
 pub tell-spec : {M : Type 1} → statement M
 tell-spec =
