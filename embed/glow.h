@@ -121,7 +121,7 @@ uint32_t glow_evaluate(
 
    The refusals in the order of their tests: 1 to 7 of the file; 17; 2 and 4 to 7 of each definition in turn; 18 over all
    definitions, and 19 over all. Then come those of a run. With the two bytes 00 00 for a prelude a call is one of
-   glow_evaluate. */
+   glow_evaluate. embed/prelude.c evaluates a term with two definitions. */
 uint32_t glow_evaluate_with(
     uint32_t machine,                                                           /* of glow_machine */
     const uint8_t *prelude, size_t prelude_len,

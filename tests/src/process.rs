@@ -10,12 +10,27 @@ use std::sync::atomic::{AtomicUsize, Ordering};
 
 pub fn root() -> PathBuf { Path::new(env!("CARGO_MANIFEST_DIR")).parent().unwrap().to_path_buf() }
 
+/// The term files of a directory.
+fn terms_in(dir: &Path) -> Vec<PathBuf> {
+    let mut all: Vec<PathBuf> = std::fs::read_dir(dir).unwrap().map(|e| e.unwrap().path()).filter(|p| p.extension().is_some_and(|e| e == "term")).collect();
+    all.sort();
+    all
+}
+
 /// The term files of examples/; beside each is its text and what glow prints for it, and beside some are its bits as text.
 pub fn examples() -> Vec<PathBuf> {
-    let mut all: Vec<PathBuf> = std::fs::read_dir(root().join("examples")).unwrap().map(|e| e.unwrap().path()).filter(|p| p.extension().is_some_and(|e| e == "term")).collect();
-    all.sort();
+    let all = terms_in(&root().join("examples"));
     assert!(all.len() >= 16);
     all
+}
+
+/// Examples with named definitions: their directory, and the term files in it; beside each is its text, what glow would print for it and its
+/// result as text.
+pub fn arithmetic() -> (PathBuf, Vec<PathBuf>) {
+    let dir = root().join("examples/arithmetic");
+    let all = terms_in(&dir);
+    assert!(all.len() >= 6);
+    (dir, all)
 }
 
 /// The program that GLOW_BIN names, or target/bin/glow.

@@ -1,7 +1,9 @@
 //! Around the library: the wrapper's own types, the examples in C and Rust, tools/terms, tools/glow and examples/.
 use glow_tests::case::Case;
+use glow_tests::flat::text;
 use glow_tests::machine::*;
-use glow_tests::process::{examples, file_of, root};
+use glow_tests::prelude::{put_in, read};
+use glow_tests::process::{arithmetic, examples, file_of, root};
 use std::path::Path;
 use std::process::Command;
 
@@ -15,6 +17,13 @@ fn examples_print_as_written() {
     }
 }
 
+/// What tools/terms writes for these words, with this input.
+fn terms(words: &[&str], input: &[u8]) -> Vec<u8> {
+    let done = Command::new("python3").arg(root().join("tools/terms")).args(words).stdin(file_of(input)).output().unwrap();
+    assert!(done.status.success(), "{words:?}: {}", String::from_utf8_lossy(&done.stderr));
+    done.stdout
+}
+
 #[test]
 fn terms_tool() {
     let terms = root().join("tools/terms");
@@ -25,19 +34,19 @@ fn terms_tool() {
         assert!(made.status.success(), "{}", String::from_utf8_lossy(&made.stderr));
         assert_eq!(made.stdout, std::fs::read(&path).unwrap(), "{}", path.display());
     }
-    let wrong = Command::new("python3").arg(&terms).args(["make", "(x"]).output().unwrap();
-    assert_eq!(wrong.status.code(), Some(1));
-    assert!(String::from_utf8_lossy(&wrong.stderr).starts_with("terms: "));
+    for words in [
+        &["make", "(x"][..], &["prelude", "a = \\x. a"], &["make", "--put-in", "x"], &["show", "--plain", "-"], &["show", "--definitions", "--bits", "-"],
+        &["make", "--prelude", "-", "-"], &["make", "--prelude", "a = \\x. x", "-f", "1", "v0"], &["show", "--prelude", "", "--nodes", "-"],
+    ] {
+        let wrong = Command::new("python3").arg(&terms).args(words).stdin(file_of(&[])).output().unwrap();
+        assert_eq!((wrong.status.code(), wrong.stdout), (Some(1), vec![]), "{words:?}");
+        assert!(String::from_utf8_lossy(&wrong.stderr).starts_with("terms: "), "{words:?}");
+    }
 }
 
 /// The bits as text that stand beside some examples, and packed bits of all of them, there and back.
 #[test]
 fn terms_tool_bits() {
-    let terms = |words: &[&str], input: &[u8]| {
-        let done = Command::new("python3").arg(root().join("tools/terms")).args(words).stdin(file_of(input)).output().unwrap();
-        assert!(done.status.success(), "{words:?}: {}", String::from_utf8_lossy(&done.stderr));
-        done.stdout
-    };
     let mut as_text = 0;
     for path in examples() {
         let file = std::fs::read(&path).unwrap();
@@ -50,6 +59,34 @@ fn terms_tool_bits() {
         as_text += 1;
     }
     assert!(as_text >= 2);
+}
+
+/// The examples with named definitions: prelude and terms are those of the texts; the answers, the written results and the results as texts
+/// are right; and the tool puts the definitions in as the second implementation does, which changes neither outcome nor betas.
+#[test]
+fn arithmetic_prints_as_written() {
+    let (dir, all) = arithmetic();
+    let definitions = format!("@{}", dir.join("church.txt").display());
+    let prelude = std::fs::read(dir.join("church.prelude")).unwrap();
+    assert_eq!(terms(&["prelude", &definitions], &[]), prelude);
+    assert_eq!(terms(&["prelude", "-"], &terms(&["show", "--definitions", "-"], &prelude)), prelude);
+    for path in all {
+        let file = std::fs::read(&path).unwrap();
+        let source = format!("@{}", path.with_extension("txt").display());
+        assert_eq!(terms(&["make", "--prelude", &definitions, &source], &[]), file, "{}", path.display());
+        let whole = terms(&["make", "--prelude", &definitions, "--put-in", &source], &[]);
+        let (term, parsed) = read(&prelude, &file).unwrap();
+        let nodes: String = parsed.iter().map(|p| text(&p.tags, &p.args) + "\n").collect();
+        assert_eq!(String::from_utf8(terms(&["show", "--definitions", "--nodes", "-"], &prelude)).unwrap(), format!("# d = {}\n{nodes}", parsed.len()));
+        assert_eq!(put_in(&term, &parsed).unwrap().file(), whole, "{}", path.display());
+        for rules in BOTH {
+            let (with, without) = (Case::glow(rules, &file).with(&prelude).check(), Case::glow(rules, &whole).check());
+            assert_eq!((&with.run().outcome, with.run().counts.beta), (&without.run().outcome, without.run().counts.beta), "{}", path.display());
+            let Outcome::Normal(result) = &with.run().outcome else { panic!("{}", path.display()) };
+            assert_eq!(terms(&["show", "--prelude", &definitions, "-"], &result.file()), std::fs::read(path.with_extension("shown")).unwrap(), "{}", path.display());
+            if rules == Rules::First { assert_eq!(printed(&with), std::fs::read_to_string(path.with_extension("out")).unwrap(), "{}", path.display()); }
+        }
+    }
 }
 
 /// What is no file is told before anything is built, and nothing is printed. What it prints for a file, the gate compares.
@@ -125,6 +162,26 @@ mod library {
         }
     }
 
+    /// The example that takes a prelude and a term file, on each of examples/arithmetic: it writes the normal form as a file.
+    #[test]
+    fn the_rust_example_with_definitions() {
+        let (dir, all) = arithmetic();
+        let prelude = dir.join("church.prelude");
+        let ran = |paths: &[&Path]| Command::new(env!("CARGO")).args(["run", "--quiet", "--release", "--offline", "-p", "glow", "--example", "prelude"]).args(paths).current_dir(root()).output().unwrap();
+        for path in all {
+            let done = ran(&[&prelude, &path]);
+            assert!(done.status.success(), "{}", String::from_utf8_lossy(&done.stderr));
+            let answer = evaluate_with(Rules::First, &std::fs::read(&prelude).unwrap(), &std::fs::read(&path).unwrap(), GLOW_BUDGET, &Lengths::glow());
+            let Outcome::Normal(result) = &answer.run().outcome else { panic!("{}", path.display()) };
+            assert_eq!(done.stdout, result.file(), "{}", path.display());
+            assert!(String::from_utf8_lossy(&done.stderr).starts_with(&format!("normal, beta {},", answer.run().counts.beta)));
+        }
+        for wrong in [&[&*prelude][..], &[&prelude, &prelude], &[&dir.join("01-two-plus-three.term"), &dir.join("01-two-plus-three.term")]] {
+            let done = ran(wrong);
+            assert!(!done.status.success() && done.stdout.is_empty() && !done.stderr.is_empty());
+        }
+    }
+
     /// What a C program prints that is compiled with the header and the library.
     fn printed_by(source: &Path, name: &str) -> String {
         let lib = std::env::var("GLOW_LIB_DIR").unwrap_or_else(|_| root().join("target/lib").display().to_string());
@@ -143,6 +200,7 @@ mod library {
         assert_eq!(printed_by(&root().join("embed/example.c"), "example"), "status 0 refusal 0 beta 1 term a1 v0 v0\n");
         let both = "import: status 0 refusal 0 bytes 00 00 02 00 01 00 00 00 00 00\nexport: status 0 refusal 0 bytes 20\n";
         assert_eq!(printed_by(&root().join("embed/exchange.c"), "exchange"), both);
+        assert_eq!(printed_by(&root().join("embed/prelude.c"), "prelude"), "status 0 refusal 0 beta 2 term v2\n");
     }
 
     /// The stack and the numbers that the header tells are the wrapper's, and a C program may lend null for what it has not.

@@ -55,8 +55,8 @@ fn defined_as<const N: usize>(path: &str, name: &str) -> [usize; N] {
 pub fn sentences(text: &str) -> Checked {
     let [free] = defined_as("crates/termfile/specs/File.antt", "maxFree");
     let [most] = defined_as("crates/termfile/specs/File.antt", "maxNodes");
-    let [budget] = defined_as("crates/machine/specs/Program.antt", "million");
-    let [nodes, cells, names, renumber, output] = defined_as("crates/machine/specs/Program.antt", "glow");
+    let [budget] = defined_as("crates/machine/specs/Glow.antt", "million");
+    let [nodes, cells, names, renumber, output] = defined_as("crates/machine/specs/Glow.antt", "glow");
     let [longest] = defined_as("crates/rendering/specs/Promise.antt", "longestText");
     let right = [
         format!("| budget | {} beta steps |", grouped(budget)),
@@ -76,6 +76,7 @@ pub fn sentences(text: &str) -> Checked {
         format!("fewer than {} elements the status is 4", glow::REPORT_LEN),
         format!("at most {} + {} · min(C, N / 4) bytes, or {} where that is more", grouped(glow::STACK_FOR_A_RESULT), glow::STACK_FOR_A_LEVEL, grouped(glow::STACK_FOR_A_CALL)),
         format!("With the program's stores this is {} bytes.", grouped(glow::Stores::glow().stack_needed())),
+        format!("at most {} + {} · (N / 4) bytes or, again, {}, which is `GLOW_STACK_NEEDED(nodes, nodes)` or `stack_needed_with(nodes)`", grouped(glow::STACK_FOR_A_RESULT), glow::STACK_FOR_A_LEVEL, grouped(glow::STACK_FOR_A_CALL)),
         format!("as the bits may be any bytes; above {} it is refused.", grouped(free)),
         format!("| 2, where f is above {}; 14 and 16,", grouped(free)),
         format!("a node beyond the {}th, or a free name that is not below f", grouped(most)),
@@ -114,7 +115,7 @@ fn names_and_numbers() {
     assert_eq!((header_table(&text, "status", "glow_status"), header_table(&text, "status", "glow_exchange_status")), (Ok(6), Ok(3)));
     assert_eq!(header_table(&text, "machine", "glow_machine"), Ok(2));
     assert_eq!(header_table(&text, "element", "glow_report"), Ok(12));
-    assert_eq!((constants(&text), sentences(&text), arrays(&text)), (Ok(10), Ok(24), Ok(5)));
+    assert_eq!((constants(&text), sentences(&text), arrays(&text)), (Ok(10), Ok(25), Ok(5)));
     assert_eq!(lent().len(), 9);
     let megabytes = |bytes: usize| format!("{:.1} MB", bytes as f64 / 1e6);
     let stack = [glow::Stores::glow().stack_needed(), glow::MOST_STACK_NEEDED, glow::STACK_FOR_AN_EXCHANGE].map(megabytes);
