@@ -186,15 +186,16 @@ mod library {
     /// A call that needs much stack, and its answer.
     struct DeepCall { rules: Rules, prelude: Option<Vec<u8>>, f: usize, file: Vec<u8>, lengths: Lengths, answer: Answer }
 
-    /// On each machine the deepest terms for glow's stores and for the largest, and on the first, where it is one of entries, a long chain
-    /// of renamings. With a prelude a chain of definitions, for which no cell is lent.
+    /// On each machine the deepest terms for glow's stores and for the largest, in writing and in counting, and on the first, where it is one
+    /// of entries, a long chain of renamings. With a prelude a chain of definitions, for which no cell is lent.
     fn all_deep_calls() -> Vec<DeepCall> {
-        use crate::families::{abstraction_chain, definition_chain, longest_copied_abstraction_chain, renamings};
+        use crate::families::{abstraction_chain, definition_chain, inert_chain_across, longest_copied_abstraction_chain, longest_copied_head_chain, renamings, W};
         use crate::flat::{canonical, v};
         use crate::machine::BOTH;
         let terms = [
             (&BOTH[..1], None, 1, renamings(5461), Lengths::glow()),
-            (&BOTH[..], None, 0, abstraction_chain(4095), Lengths::glow()),
+            (&BOTH[..], None, 2, inert_chain_across(4095, v(W)), Lengths::glow()),
+            (&BOTH[..], None, 2, longest_copied_head_chain(32_768, inert_chain_across(1300, v(W))), Lengths::largest()),
             (&BOTH[..], None, 0, longest_copied_abstraction_chain(32_768), Lengths::largest()),
             (&BOTH[..], None, 0, abstraction_chain(1), Lengths::of(6, 1, 3, 3, 3)),
             (&BOTH[..], Some(definition_chain(5461)), 5461, v(5460), Lengths::of(32_768, 0, 32_768, 32_768, 16_384)),

@@ -109,6 +109,22 @@ pub fn inert_chain_left(n: usize) -> Flat {
     out
 }
 
+/// y (y (.. leaf .. i) i): each argument has a stack of its own, and another argument behind it. 4 nodes and 2 cells for each.
+pub fn inert_chain_across(n: usize, leaf: Flat) -> Flat {
+    let mut out = Vec::new();
+    for _ in 0..n { out.extend([F::A, F::A, F::V(Y)]); }
+    out.extend(leaf);
+    out.extend(vec![F::V(W); n]);
+    out
+}
+/// (\z. \a. z a) ((\z. \a. z a) .. leaf): as `abstraction_chain`, with a node behind each name. 6 nodes and a cell for each.
+pub fn head_chain(n: usize, leaf: Flat) -> Flat {
+    let mut out = Vec::new();
+    for _ in 0..n { out.extend([F::A, F::L(X), F::L(Z), F::A, F::V(X), F::V(Z)]); }
+    out.extend(leaf);
+    out
+}
+
 /// The identity, and then so many definitions in all, each \x. d x with d the one before: each name has a node behind it. 4 n - 2 nodes.
 pub fn definition_chain(n: usize) -> Vec<Flat> { std::iter::once(id()).chain((1..n as u32).map(|k| l(X, a(v(k - 1), v(X))))).collect() }
 
@@ -171,6 +187,13 @@ pub fn longest_copied_abstraction_chain(nodes: usize) -> Flat {
     let outer = |inner: usize| (nodes - 4 - (4 * inner + 2)) / (4 * inner + 6);
     let inner = (1..400).max_by_key(|&inner| inner * outer(inner)).unwrap();
     copied_chain(&link_abstraction(), inner, outer(inner), id())
+}
+/// A chain of heads behind entries, ((leaf y) y ..) y, made by copies, with a store of so many nodes. A copy of its body takes 5 nodes for each
+/// link and 2 more, and the application to it 2.
+pub fn longest_copied_head_chain(nodes: usize, leaf: Flat) -> Flat {
+    let outer = |inner: usize| (nodes - 2 - leaf.len() - (5 * inner + 2)) / (5 * inner + 4);
+    let inner = (1..400).max_by_key(|&inner| inner * outer(inner)).unwrap();
+    copied_chain(&link_left(), inner, outer(inner), leaf)
 }
 /// t_n with the longest chain of renamings in place of y: 2^n leaves, each at the chain's far end.
 pub fn slow_to_write(n: usize, nodes: usize) -> (usize, Flat) {

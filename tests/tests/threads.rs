@@ -1,10 +1,11 @@
 //! The wrapper's `evaluate`, on both machines, on stacks of all sizes: the right answer, and no crash.
 #![cfg(feature = "library")]
 use glow_tests::case::deep_calls;
-use glow_tests::families::abstraction_chain;
-use glow_tests::flat::canonical;
+use glow_tests::families::{definition_chain, inert_chain_across};
+use glow_tests::flat::{canonical, v};
 use glow_tests::machine::{BOTH, GLOW_BUDGET};
 use glow_tests::painted::on_stack;
+use glow_tests::prelude::encode;
 use std::ffi::c_void;
 use std::os::raw::c_int;
 use std::process::Command;
@@ -16,15 +17,25 @@ fn threads_of_all_sizes() {
     }
 }
 
-/// Where the thread has enough stack, the call stays on it; where not, next to nothing is used of it.
+/// Where the thread has enough stack, the call stays on it; where not, next to nothing is used of it. The 2 MiB of a thread of Rust's
+/// standard library are enough for glow's stores.
 #[test]
 fn another_thread_only_where_needed() {
-    let file = canonical(0, &abstraction_chain(4095)).file();
+    let file = canonical(2, &inert_chain_across(4095, v(1))).file();
+    let prelude = encode(&definition_chain(4095).iter().enumerate().map(|(k, t)| canonical(k, t).file()).collect::<Vec<_>>());
+    let named = canonical(4095, &v(4094)).file();
     let mut stores = glow::Stores::glow();
     let needed = stores.stack_needed();
+    assert_eq!(needed, stores.stack_needed_with());
     for rules in BOTH {
-        assert!(on_stack(8 << 20, || { stores.evaluate(rules.into(), &file, GLOW_BUDGET); }) > needed / 2);
-        assert!(on_stack(1 << 20, || { stores.evaluate(rules.into(), &file, GLOW_BUDGET); }) < needed / 16);
+        for bytes in [8 << 20, 2 << 20] {
+            assert!(on_stack(bytes, || { stores.evaluate(rules.into(), &file, GLOW_BUDGET); }) > needed * 93 / 100);
+            assert!(on_stack(bytes, || { stores.evaluate_with(rules.into(), &prelude, &named, GLOW_BUDGET).unwrap(); }) > needed * 93 / 100);
+        }
+        for bytes in [1 << 20, needed] {
+            assert!(on_stack(bytes, || { stores.evaluate(rules.into(), &file, GLOW_BUDGET); }) < needed / 16);
+            assert!(on_stack(bytes, || { stores.evaluate_with(rules.into(), &prelude, &named, GLOW_BUDGET).unwrap(); }) < needed / 16);
+        }
     }
 }
 

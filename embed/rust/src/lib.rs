@@ -30,7 +30,7 @@ pub use exchange::{
     export, export_in, export_to_vec, import, import_in, import_to_vec, ExchangeRefusal, ExchangeStatus, Exchanged,
     EXCHANGE_REPORT_LEN, MOST_EXPORTED, MOST_IMPORTED, STACK_FOR_AN_EXCHANGE,
 };
-pub use stack::{stack_needed, stack_needed_with, MOST_STACK_NEEDED, STACK_FOR_A_CALL, STACK_FOR_A_LEVEL};
+pub use stack::{stack_needed, stack_needed_with, MOST_STACK_NEEDED, STACK_FOR_A_CALL, STACK_FOR_A_LEVEL, STACK_FOR_A_RESULT};
 
 /// Elements of the report array.
 pub const REPORT_LEN: usize = 12;

@@ -77,10 +77,10 @@ fn mistakes_are_found_out() {
     found_out(|text| header_table(text, "status", "glow_status"), "| 3 | `GLOW_FILE_REFUSED` |", "| 3 | `GLOW_EXCHANGE_REFUSED` |");
     found_out(|text| header_table(text, "status", "glow_status"), "| 5 | `GLOW_NO_SUCH_MACHINE` |", "| 6 | `GLOW_NO_SUCH_MACHINE` |");
     found_out(|text| header_table(text, "machine", "glow_machine"), "| 1 | `GLOW_ON_DEMAND` |", "| 2 | `GLOW_ON_DEMAND` |");
-    found_out(constants, "106,496 |", "106,497 |");
+    found_out(constants, "139,264 |", "139,265 |");
     found_out(constants, "172,032 |", "170,232 |");
     found_out(constants, "`GLOW_MOST_EXPORTED` |", "`GLOW_MOST_IMPORTED` |");
-    found_out(sentences, "2,072,576", "2,072,577");
+    found_out(sentences, "2,035,712", "2,035,713");
     found_out(sentences, "480 · (N / 4) bytes", "480 · (N / 2) bytes");
     found_out(sentences, "| name store | 32,768 |", "| name store | 16,384 |");
     found_out(sentences, "fewer than 2 elements the status is 4", "fewer than 3 elements the status is 4");

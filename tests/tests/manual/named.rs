@@ -24,6 +24,7 @@ pub fn constants(text: &str) -> Checked {
         let (c, rust, n) = (quoted(&row[1]).concat(), quoted(&row[2]).concat(), number(&row[3])?);
         let right = match rust.as_str() {
             "STACK_FOR_A_CALL" => glow::STACK_FOR_A_CALL,
+            "STACK_FOR_A_RESULT" => glow::STACK_FOR_A_RESULT,
             "STACK_FOR_A_LEVEL" => glow::STACK_FOR_A_LEVEL,
             "MOST_STACK_NEEDED" => glow::MOST_STACK_NEEDED,
             "MOST_COUNTED" => glow::MOST_COUNTED,
@@ -73,9 +74,9 @@ pub fn sentences(text: &str) -> Checked {
         format!("{} bytes are enough for every answer", grouped(longest)),
         format!("an array of {} bytes is never too short", grouped(longest)),
         format!("fewer than {} elements the status is 4", glow::REPORT_LEN),
-        format!("at most {} + {} · min(C, N / 4) bytes", grouped(glow::STACK_FOR_A_CALL), glow::STACK_FOR_A_LEVEL),
+        format!("at most {} + {} · min(C, N / 4) bytes, or {} where that is more", grouped(glow::STACK_FOR_A_RESULT), glow::STACK_FOR_A_LEVEL, grouped(glow::STACK_FOR_A_CALL)),
         format!("With the program's stores this is {} bytes.", grouped(glow::Stores::glow().stack_needed())),
-        format!("at most {} + {} · (N / 4) bytes, `GLOW_STACK_NEEDED(nodes, nodes)` or `stack_needed_with(nodes)`", grouped(glow::STACK_FOR_A_CALL), glow::STACK_FOR_A_LEVEL),
+        format!("at most {} + {} · (N / 4) bytes or, again, {}, which is `GLOW_STACK_NEEDED(nodes, nodes)` or `stack_needed_with(nodes)`", grouped(glow::STACK_FOR_A_RESULT), glow::STACK_FOR_A_LEVEL, grouped(glow::STACK_FOR_A_CALL)),
         format!("as the bits may be any bytes; above {} it is refused.", grouped(free)),
         format!("| 2, where f is above {}; 14 and 16,", grouped(free)),
         format!("a node beyond the {}th, or a free name that is not below f", grouped(most)),
@@ -114,7 +115,7 @@ fn names_and_numbers() {
     assert_eq!((header_table(&text, "status", "glow_status"), header_table(&text, "status", "glow_exchange_status")), (Ok(6), Ok(3)));
     assert_eq!(header_table(&text, "machine", "glow_machine"), Ok(2));
     assert_eq!(header_table(&text, "element", "glow_report"), Ok(12));
-    assert_eq!((constants(&text), sentences(&text), arrays(&text)), (Ok(9), Ok(25), Ok(5)));
+    assert_eq!((constants(&text), sentences(&text), arrays(&text)), (Ok(10), Ok(25), Ok(5)));
     assert_eq!(lent().len(), 9);
     let megabytes = |bytes: usize| format!("{:.1} MB", bytes as f64 / 1e6);
     let stack = [glow::Stores::glow().stack_needed(), glow::MOST_STACK_NEEDED, glow::STACK_FOR_AN_EXCHANGE].map(megabytes);

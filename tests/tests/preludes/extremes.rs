@@ -123,6 +123,7 @@ fn on_eight_mebibytes() {
                     used.map_or("-".into(), |u| format!("{} bytes", u.saturating_sub(none))));
                 if let Some(u) = used {
                     let told = told(&lengths);
+                    let told = if name.ends_with("abstractions by their names") && !name.contains("entries") { told_flat() } else { told };
                     assert!(u.saturating_sub(none) <= told, "{name}: {} bytes of stack, and {told} are told", u - none);
                     if u > deepest.0 { deepest = (u, format!("{name}, {which}, {rules:?}")); }
                 }
@@ -201,5 +202,10 @@ fn library_use(rules: Rules, s: &Subject, l: &Lengths) -> Option<usize> {
 fn told(l: &Lengths) -> usize { glow::stack_needed_with(l.nodes() as usize) }
 #[cfg(not(feature = "library"))]
 fn told(_: &Lengths) -> usize { 0 }
+/// The stack that the wrapper tells for a call without levels. Definitions with the name as the last node make none, however many they are.
+#[cfg(feature = "library")]
+fn told_flat() -> usize { glow::STACK_FOR_A_CALL }
+#[cfg(not(feature = "library"))]
+fn told_flat() -> usize { 0 }
 #[cfg(not(feature = "library"))]
 fn library_use(_: Rules, _: &Subject, _: &Lengths) -> Option<usize> { None }
