@@ -1,9 +1,9 @@
-// The text of an answer: the lines that tell how a call of `evaluate` ended.
+// The text of an answer: the lines that tell how a call of the evaluator ended.
 //
 // `render` writes them at the front of an array that is lent. It counts their bytes first: where the array
 // is too short it says so and writes nothing; and so it does where the answer's nodes are not in these output
 // arrays or are more than 16,384, or its sum of shifting steps needs more than 64 bits, as no call of
-// `evaluate` gives such an answer.
+// the evaluator gives such an answer.
 mod digits;
 mod nodes;
 mod report;
@@ -101,7 +101,7 @@ fn render_report(r: Report, tags: &[u8], args: &[u16], out: &mut [u8]) -> Render
     Rendered::Written(bytes)
 }
 
-// Renders an answer of `evaluate` into `out`. The written nodes stand at the front of `tags` and `args`, the
+// Renders an answer of the evaluator into `out`. The written nodes stand at the front of `tags` and `args`, the
 // output arrays of the call. Wrong answers that the contract rules out, each tried in must-fail/: a text in
 // an array that is one byte too short, leave-inert where leave-fun belongs, and the letter of an abstraction
 // for an application.

@@ -31,7 +31,7 @@
 //! Four nodes are what the last kind takes, in counting and in writing, and two cells. In counting the first kind takes four
 //! nodes and one cell, and in writing six. The second kind takes four, and no cell. A result has at most 16,384 nodes, of which a
 //! level of the last kind writes four and one of the second three: with node stores beyond 16,384, or 21,845 with a
-//! prelude, less is taken than is told, with the largest by about a seventh.
+//! prelude, less is taken than is told, with the largest by a seventh to a sixth.
 //!
 //! No function of an import or an export calls itself: see [`STACK_FOR_AN_EXCHANGE`](crate::STACK_FOR_AN_EXCHANGE).
 
