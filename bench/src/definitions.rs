@@ -59,14 +59,16 @@ fn agreed(s: &mut Arrays, machine: Machine, library: &Library, program: &Program
     [report[2], report[2..7].iter().sum()]
 }
 
-/// Programs of a kind, or of all: how many there are, their betas and steps, and what each side takes for all of them together.
+/// Programs of a kind, or of all: how many there are, their betas and steps with the prelude, and what each side takes for all of them together.
 #[derive(Clone, Copy, Default)]
 struct Row { programs: u64, beta: u64, steps: u64, together: [f64; 3] }
 
 fn heading(machine: Machine, library: &Library, unit: &str) {
-    println!("{}{DEFINITIONS} definitions of {} nodes together, used by {TERMS} terms; with: as a prelude, applied: as arguments in the term's own file; {unit} of calls that check and load all of it and write the result", machine.heading(), library.nodes);
-    println!("{:42} {:>6} {:>8} {:>8} | {:^31} | {:^35} | {:>5} | {:>7}", "", "", "beta", "steps", "per call", "together", "lib /", "with /");
-    println!("{:42} {:>6} {:>8} {:>8} | {:>9} {:>11} {:>9} | {:>11} {:>11} {:>11} | {:>5} | {:>7}", "", "terms", "of all", "of all", "lib with", "lib applied", "pl. with", "lib with", "lib applied", "pl. with", "plain", "applied");
+    println!("{}{DEFINITIONS} named definitions of {} nodes together, used by {TERMS} terms; with: as a prelude, applied: as arguments in the term's own file; {unit} of calls that check and load all of them and write the result", machine.heading(), library.nodes);
+    if cfg!(feature = "library") {
+        println!("{:42} {:>6} {:>7} {:>7} | {:^31} | {:^35} | {:^15}", "", "", "", "", "per call", "together", "lib with /");
+        println!("{:42} {:>6} {:>7} {:>7} | {:>9} {:>11} {:>9} | {:>11} {:>11} {:>11} | {:>7} {:>7}", "", "terms", "beta", "steps", "lib with", "lib applied", "pl. with", "lib with", "lib applied", "pl. with", "pl.", "applied");
+    }
 }
 
 impl Row {
@@ -74,7 +76,11 @@ impl Row {
         let Row { programs, beta, steps, together } = self;
         let [with, applied, plain] = together;
         let [with_call, applied_call, plain_call] = together.map(|all| all / *programs as f64);
-        println!("{name:42} {programs:6} {beta:8} {steps:8} | {with_call:9.digits$} {applied_call:11.digits$} {plain_call:9.digits$} | {with:11.digits$} {applied:11.digits$} {plain:11.digits$} | {:5.2} | {:7.2}", with / plain, with / applied);
+        if cfg!(feature = "library") {
+            println!("{name:42} {programs:6} {beta:7} {steps:7} | {with_call:9.digits$} {applied_call:11.digits$} {plain_call:9.digits$} | {with:11.digits$} {applied:11.digits$} {plain:11.digits$} | {:7.2} {:7.2}", with / plain, with / applied);
+        } else {
+            println!("{name:42} {programs:6} {beta:7} {steps:7} | {plain_call:9.digits$} | {plain:11.digits$}");
+        }
     }
 }
 
