@@ -1,5 +1,6 @@
 //! The library's two machines through its wrapper, each beside the same machine on plain arrays: steps per second, or
-//! instructions; and the two side by side. `exchange` has its import and export of binary lambda calculus.
+//! instructions; and the two side by side. `exchange` has its import and export of binary lambda calculus, `definitions` calls with a
+//! prelude of named definitions.
 //!
 //! Stores are the largest (32,768 nodes, cells and names; renumber 32,768; output 16,384), made once
 //! and NOT cleared between calls, the same for both. A call is load, run and, at normal, writing the
@@ -14,12 +15,15 @@
 //!     cargo run --release -p glow-bench -- --on-demand    (that machine's times; --instructions --on-demand; --first likewise)
 //!     cargo run --release -p glow-bench -- --text  (the program; GLOW_BIN names another)
 //!     cargo run --release -p glow-bench -- --exchange    (import and export; with --instructions behind it, instructions)
+//!     cargo run --release -p glow-bench -- --definitions    (a library of named definitions; with --instructions behind it, instructions)
 //!     cargo run --release -p glow-bench -- --growth    (t_n of proposition 3 beside the old way)
 //!     bench/run.sh                                 all of them, kept in bench/last.txt and bench/growth.txt
+mod definitions;
 mod exchange;
 #[cfg(feature = "library")]
 mod growth;
 mod instructions;
+mod library;
 mod machines;
 mod text;
 
@@ -217,7 +221,7 @@ fn time_tables(machines: &[Machine]) {
 }
 
 fn unknown(words: &[&str]) -> ! {
-    eprintln!("glow-bench: {} is not known; there are --instructions, --text, --exchange, --exchange --instructions and, with the library, --growth; and, alone or behind --instructions, --first or --on-demand", words.join(" "));
+    eprintln!("glow-bench: {} is not known; there are --instructions, --text, --exchange, --exchange --instructions, --definitions, --definitions --instructions and, with the library, --growth; and, alone or behind --instructions, --first or --on-demand", words.join(" "));
     std::process::exit(2)
 }
 
@@ -234,10 +238,13 @@ fn work() {
         ["--text"] => text::table(),
         ["--exchange"] => exchange::time_table(),
         ["--exchange", "--instructions"] => exchange::instruction_table(),
+        ["--definitions"] => definitions::time_tables(),
+        ["--definitions", "--instructions"] => definitions::instruction_tables(),
         #[cfg(feature = "library")]
         ["--growth"] => growth::table(),
         ["--calls", ref numbers @ ..] => instructions::make_calls(numbers),
         ["--exchange-calls", ref numbers @ ..] => exchange::make_calls(numbers),
+        ["--definitions-passes", ref numbers @ ..] => definitions::make_passes(numbers),
         _ => unknown(&words),
     }
 }
