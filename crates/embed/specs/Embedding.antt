@@ -32,22 +32,17 @@ abbrev pub statusOf : machine.Answer → ℕ
 statusOf (machine.number-alone k) = 3
 statusOf (machine.report r) = outcomeStatus (r .outcome)
 
--- the refusal's number, or 0; and the nodes written, or 0
+-- the refusal's number, or 0
 abbrev pub refusalOf : machine.Outcome → ℕ
 refusalOf (machine.normal n) = 0
 refusalOf machine.spent = 0
 refusalOf (machine.refused k) = k
 
-abbrev pub writtenOf : machine.Outcome → ℕ
-writtenOf (machine.normal n) = n
-writtenOf machine.spent = 0
-writtenOf (machine.refused k) = 0
-
 -- what is written to the report array: of refused bytes the number alone, and else all that a run returns
 abbrev pub numbersOf : machine.Answer → List ℕ
 numbersOf (machine.number-alone k) = k ∷ []
 numbersOf (machine.report r) =
-    refusalOf (r .outcome) ∷ writtenOf (r .outcome) ∷ r .beta ∷ r .subst ∷ r .enter ∷ r .leave-fun ∷ r .leave-inert ∷ r .nodes ∷ r .cells ∷ r .names
+    refusalOf (r .outcome) ∷ machine.nodesWritten (r .outcome) ∷ r .beta ∷ r .subst ∷ r .enter ∷ r .leave-fun ∷ r .leave-inert ∷ r .nodes ∷ r .cells ∷ r .names
     ∷ r .subst-allowance ∷ r .shift-allowance ∷ []
 
 -- what is promised of a call with a number that is no machine's: the status 5, and nothing is touched

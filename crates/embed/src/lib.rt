@@ -15,10 +15,10 @@ ghost use mathlib.Core.Path.{_≡_};
 ghost use Prim.Native.Nat.{_≤_};
 ghost use lib.ListN.{length};
 ghost use Rattle.termfile.specs.Output.{overlay};
-ghost use Rattle.machine.specs.Answer.{report as reported, given, fileGiven};
+ghost use Rattle.machine.specs.Answer.{nodesWritten, report as reported, given, fileGiven};
 ghost use Rattle.evaluator.specs.Calling.{toldOutcome, toldReport, told};
 ghost use Rattle.evaluator.specs.Promise.{memory};
-ghost use Rattle.embed.specs.Embedding.{namedBy, outcomeStatus, statusOf, refusalOf, writtenOf, numbersOf, Embedded};
+ghost use Rattle.embed.specs.Embedding.{namedBy, outcomeStatus, statusOf, refusalOf, numbersOf, Embedded};
 
 // The machine that a number names, if it names one.
 pub enum Named {
@@ -49,7 +49,7 @@ fn refusal_of(outcome: Outcome) -> u64
 
 // The nodes written, or 0.
 fn written_of(outcome: Outcome) -> u64
-    ensures { λ q. ⌜ q ≡ writtenOf (toldOutcome outcome) ⌝ }
+    ensures { λ q. ⌜ q ≡ nodesWritten (toldOutcome outcome) ⌝ }
 {
     match outcome {
         Outcome::Normal(n) => n as u64,

@@ -18,29 +18,21 @@ use Rattle.machine.specs.Run.{Stores, Run, counted, shifts, shiftAllowance}
 use Rattle.machine.specs.Conditions.{Condition, result-fits, result-refused, run-spent, run-refused}
 use Rattle.termfile.specs.Output.{overlay}
 use Rattle.machine.specs.Program.{Program, applicationsOf}
-use Rattle.machine.specs.Answer.{Given, Outcome, normal, spent, refused, Report, Answer, written, outputLimit}
+use Rattle.machine.specs.Answer.{Given, Outcome, nodesWritten, Report, Answer, written, outputLimit}
 use Rattle.machine.specs.Demands.{Demand2, Demand3, Meets, bytes-refused, program-run}
+use Rattle.machine.proofs.Outcomes.{written-count}
 use Rattle.evaluator.specs.Calling.{told, mostCounted}
 use Rattle.evaluator.proofs.Promises.{Few}
 use Rattle.evaluator.specs.Promise.{Memory, storesIn, Called}
 use Rattle.evaluator.specs.declared.Answer as enum
 use Rattle.rendering.specs.Lines.{shiftSum, lines, textOf}
-use Rattle.rendering.specs.Promise.{nodesWritten, nodesIn, Tellable}
+use Rattle.rendering.specs.Promise.{nodesIn, Tellable}
 
 condition-fits : {M : Machine} {P : Program} {budget : ℕ} {st : Stores} {r : Run} {o : Outcome} → Condition M P budget st r o → nodesWritten o ≤ st .output
 condition-fits (result-fits e n h) = h
 condition-fits (result-refused k e h) = zero-le
 condition-fits (run-spent e) = zero-le
 condition-fits (run-refused k e) = zero-le
-
-written-count : {M : Machine} {P : Program} {budget : ℕ} {st : Stores} {r : Run} {q : Report} {ns : List Node} → Demand2 M P budget st r q ns
-    → nodesWritten (q .outcome) ≡ length ns
-written-count {q = q} {ns = ns} d = by (q .outcome) refl
-  where
-    by : (o : Outcome) → q .outcome ≡ o → nodesWritten o ≡ length ns
-    by (normal n) e = sym (d .normal-form n e .size)
-    by spent e = sym (ap length (d .unwritten (λ n e′. let z : _≡_ {A = ℕ} 0 1 = cc in omega arith)))
-    by (refused k) e = sym (ap length (d .unwritten (λ n e′. let z : _≡_ {A = ℕ} 0 1 = cc in omega arith)))
 
 shifts-are : (ms : List Move) → shifts ms ≡ counted Kind.enter ms + (counted Kind.leave-fun ms + counted Kind.leave-inert ms)
 shifts-are [] = refl

@@ -6,9 +6,9 @@ use mathlib.Core.List.{List}
 use native.Mathlib.Omega.{arith}
 use lib.ListN.{length}
 use Rattle.termfile.specs.Output.{overlay}
-use Rattle.machine.specs.Answer.{Report, Answer, report}
+use Rattle.machine.specs.Answer.{nodesWritten, Report, Answer, report}
 use Rattle.rendering.specs.Lines.{lines}
-use Rattle.rendering.specs.Promise.{nodesWritten, nodesAt, nodesIn, Tellable, longestText, Renders}
+use Rattle.rendering.specs.Promise.{nodesAt, nodesIn, Tellable, longestText, Renders}
 use Rattle.rendering.specs.declared.Rendered.the-variants.{Written, TooShort, NoAnswer}
 
 -- no call gives the answer

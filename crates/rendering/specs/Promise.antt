@@ -8,16 +8,10 @@ use lib.ListN.{length, take}
 use Rattle.termfile.specs.Nodes.{Node}
 use Rattle.termfile.specs.File.{pairs}
 use Rattle.termfile.specs.Output.{overlay}
-use Rattle.machine.specs.Answer.{Outcome, normal, spent, refused, Report, Answer, number-alone, report, outputLimit}
+use Rattle.machine.specs.Answer.{nodesWritten, Report, Answer, number-alone, report, outputLimit}
 use Rattle.rendering.specs.Lines.{shiftSum, lines}
 use Rattle.rendering.specs.declared.Rendered.{Rendered}
 use Rattle.rendering.specs.declared.Rendered.the-variants.{Written, TooShort, NoAnswer}
-
--- the number of nodes that are written: those of the normal form, or none
-abbrev pub nodesWritten : Outcome → ℕ
-nodesWritten (normal n) = n
-nodesWritten spent = 0
-nodesWritten (refused k) = 0
 
 -- the written nodes, which stand at the front of the output arrays
 abbrev pub nodesAt : ℕ → List ℕ → List ℕ → List Node

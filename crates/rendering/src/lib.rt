@@ -19,10 +19,10 @@ use words::put_count;
 ghost use mathlib.Core.Path.{_≡_};
 ghost use mathlib.Core.List.{List};
 ghost use Prim.Native.Nat.{ℕ};
-ghost use Rattle.machine.specs.Answer.{number-alone, report as reported};
+ghost use Rattle.machine.specs.Answer.{nodesWritten, number-alone, report as reported};
 ghost use Rattle.evaluator.specs.Calling.{told, toldOutcome, toldReport};
 ghost use Rattle.rendering.specs.Lines.{shiftSum};
-ghost use Rattle.rendering.specs.Promise.{nodesWritten, Renders};
+ghost use Rattle.rendering.specs.Promise.{Renders};
 ghost use Rattle.rendering.specs.Putting.{SumFor};
 
 // What rendering returns: so many bytes are written; the array is too short for the text; or no call gives
