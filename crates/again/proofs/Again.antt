@@ -1,6 +1,5 @@
--- What a second call answers and writes, from the contracts of both and from what is proved of the defined answers (`raising` in
--- machine/proofs/Demands). The idea: each call answers and writes as defined, for the stores that its arrays make; longer arrays make longer
--- stores.
+-- What a second call answers and writes, from the contracts of both. The idea: each call answers and writes as defined, for the stores that
+-- its arrays make, and the defined answers stay where the stores are longer; longer arrays make longer stores.
 -- Assumes nothing.
 use Prim.Native.Nat.{ℕ, _≤_, _<_, min}
 use mathlib.Core.Path.{_≡_, refl, sym, ap, ap₂, subst, _∙_}
@@ -31,7 +30,7 @@ use Rattle.evaluator.specs.declared.Outcome.{Outcome}
 use Rattle.evaluator.specs.declared.Outcome.the-variants.{Normal, Spent, Refused}
 use Rattle.evaluator.specs.declared.Answer.{Answer}
 use Rattle.evaluator.specs.declared.Answer.the-variants.{FileRefused, PreludeRefused, Ran}
-use Rattle.again.specs.Again.{Call, IsCall, IsFileCall, GivenMore, nodesTold, Again, IsNormalForm, is-normal-form, storeFor, MayChange, was-spent, was-refused, TwoCalls}
+use Rattle.again.specs.Again.{Call, IsCall, IsFileCall, LentMore, nodesTold, WritesAgain, Again, IsNormalForm, is-normal-form, storeFor, MayChange, was-spent, was-refused, TwoCalls}
 use Rattle.again.proofs.Told.{runRefusal, run-refusal, outcomeFrom, outcome-from, told-same}
 
 -- two arrays that are at least as long have a least length that is at least as long
@@ -39,7 +38,7 @@ min-grows : {a b c d : ℕ} → a ≤ c → b ≤ d → min a b ≤ min c d
 min-grows l h = omega (arith, l, h)
 
 -- longer arrays make longer stores
-stores-grow : {first second : Call} → GivenMore first second → raising.Longer (storesIn (first .before)) (storesIn (second .before))
+stores-grow : {m n : Memory} → LentMore m n → raising.Longer (storesIn m) (storesIn n)
 stores-grow h =
     record {
       nodes = min-grows (h .tags) (min-grows (h .arguments) (le-refl _));
@@ -49,12 +48,11 @@ stores-grow h =
       output = min-grows (h .output-tags) (min-grows (h .output-arguments) (le-refl _));
     }
 
-limits-grow : {first second : Call} → GivenMore first second
-    → raising.Raised (first .budget) (second .budget) (storesIn (first .before)) (storesIn (second .before))
-limits-grow h = record { at-least = h .budget; longer = stores-grow h }
+pub limits-grow : {budget budget′ : ℕ} {m n : Memory} → budget ≤ budget′ → LentMore m n → raising.Raised budget budget′ (storesIn m) (storesIn n)
+limits-grow l h = record { at-least = l; longer = stores-grow h }
 
 -- the store of a refusal, by its number
-longer-store : (m n : Memory) {k : ℕ} → raising.Lengthened (storesIn m) (storesIn n) k → (j : Refusal) → number j ≡ k → storeFor j m < storeFor j n
+pub longer-store : (m n : Memory) {k : ℕ} → raising.Lengthened (storesIn m) (storesIn n) k → (j : Refusal) → number j ≡ k → storeFor j m < storeFor j n
 longer-store m n l j e = subst (λ v. storeFor v m < storeFor v n) (sym (ap runRefusal e) ∙ run-refusal j) (by l)
   where
     by : {k : ℕ} → raising.Lengthened (storesIn m) (storesIn n) k → storeFor (runRefusal k) m < storeFor (runRefusal k) n
@@ -64,28 +62,50 @@ longer-store m n l j e = subst (λ v. storeFor v m < storeFor v n) (sym (ap runR
     by (raising.Lengthened.renumber l) = l
     by (raising.Lengthened.output l) = l
 
--- the front of an array over which a list is laid, and what is behind it
-module _ (new old : List ℕ) (n : ℕ) (count : n ≡ length new) where
-  laid-front : take n (overlay new old) ≡ new
-  laid-front = ap (λ k. take k (overlay new old)) count ∙ take-append-seam new (drop (length new) old)
+-- of two arrays over which one list is laid: they begin with it, and behind it they are as they were
+module _ (new : List ℕ) {n : ℕ} (count : n ≡ length new) where
+  laid-front : (old : List ℕ) {l : List ℕ} → l ≡ overlay new old → take n l ≡ new
+  laid-front old laid = ap₂ take count laid ∙ take-append-seam new (drop (length new) old)
 
-  laid-behind : drop n (overlay new old) ≡ drop n old
-  laid-behind = ap (λ k. drop k (overlay new old)) count ∙ drop-append-seam new (drop (length new) old) ∙ ap (λ k. drop k old) (sym count)
+  pub laid-fronts : (old old′ : List ℕ) {l l′ : List ℕ} → l ≡ overlay new old → l′ ≡ overlay new old′ → take n l′ ≡ take n l
+  laid-fronts old old′ laid laid′ = laid-front old′ laid′ ∙ sym (laid-front old laid)
 
--- of nodes that are the same, one part of each is laid over two arrays
-module _ (part : Node → ℕ) {ns ns′ : List Node} (same : ns′ ≡ ns) (n : ℕ) (count : n ≡ length ns) (old old′ : List ℕ) {l l′ : List ℕ}
-    (laid : l ≡ overlay (map part ns) old) (laid′ : l′ ≡ overlay (map part ns′) old′) where
-  part-count : n ≡ length (map part ns)
-  part-count = count ∙ sym (length-map ns part)
+  pub laid-behind : (old : List ℕ) {l : List ℕ} → l ≡ overlay new old → drop n l ≡ drop n old
+  laid-behind old laid = ap₂ drop count laid ∙ drop-append-seam new (drop (length new) old) ∙ ap (λ k. drop k old) (sym count)
 
-  laid-same : l′ ≡ overlay (map part ns) old′
-  laid-same = laid′ ∙ ap (λ v. overlay (map part v) old′) same
+-- two calls whose defined nodes are the same write them
+module _ {M : Machine} {g : Given} {budget budget′ : ℕ} {q q′ : Answer} {m m′ n n′ : Memory} (a : Called M g budget q m m′) (b : Called M g budget′ q′ n n′)
+    (same : written M g budget′ (storesIn n) ≡ written M g budget (storesIn m)) {k : ℕ} (count : k ≡ length (written M g budget (storesIn m))) where
+  abbrev ns : List Node
+  ns = written M g budget (storesIn m)
 
-  fronts : take n l′ ≡ take n l
-  fronts = ap (take n) laid-same ∙ laid-front (map part ns) old′ n part-count ∙ sym (ap (take n) laid ∙ laid-front (map part ns) old n part-count)
+  abbrev tags : List ℕ
+  tags = map (λ v. v .tag) ns
 
-  behind : drop n l′ ≡ drop n old′
-  behind = ap (drop n) laid-same ∙ laid-behind (map part ns) old′ n part-count
+  abbrev arguments : List ℕ
+  arguments = map (λ v. v .argument) ns
+
+  tags-count : k ≡ length tags
+  tags-count = count ∙ sym (length-map ns (λ v. v .tag))
+
+  arguments-count : k ≡ length arguments
+  arguments-count = count ∙ sym (length-map ns (λ v. v .argument))
+
+  tags-laid : n′ .output-tags ≡ overlay tags (n .output-tags)
+  tags-laid = b .output-tags-are ∙ ap (λ l. overlay (map (λ v. v .tag) l) (n .output-tags)) same
+
+  arguments-laid : n′ .output-arguments ≡ overlay arguments (n .output-arguments)
+  arguments-laid = b .output-arguments-are ∙ ap (λ l. overlay (map (λ v. v .argument) l) (n .output-arguments)) same
+
+  pub writes-again : WritesAgain k m′ n n′
+  writes-again =
+      record {
+        tags = laid-fronts tags tags-count (m .output-tags) (n .output-tags) (a .output-tags-are) tags-laid;
+        arguments =
+            laid-fronts arguments arguments-count (m .output-arguments) (n .output-arguments) (a .output-arguments-are) arguments-laid;
+        tags-behind = laid-behind tags tags-count (n .output-tags) tags-laid;
+        arguments-behind = laid-behind arguments arguments-count (n .output-arguments) arguments-laid;
+      }
 
 -- as many nodes are written as the answer tells
 told-count : {M : Machine} {g : Given} {budget : ℕ} {st : Stores} {ns : List Node} (q : Answer) → demands.Meets M g budget st (told q) ns
@@ -124,18 +144,14 @@ module _ {M : Machine} {p s : List ℕ} {first second : Call} (a : IsCall M p s 
   nodes c = written M g (c .budget) (storesIn (c .before))
 
   stay : raising.AnswersStay (answer M g) (written M g)
-  stay = proved.answers-stay M g
+  stay = a .called .stays
 
   again : raising.Again (defined first) (nodes first) (defined second) (nodes second) → Again first second
   again h =
-      let count = told-count (first .answer) (a .called .meets) in
       record {
         answer =
             told-same p s (second .answer) (first .answer) (b .refused) (a .refused) (b .called .answer-is ∙ h .0 ∙ sym (a .called .answer-is));
-        tags = fronts (λ n. n .tag) (h .1) _ count _ _ (a .called .output-tags-are) (b .called .output-tags-are);
-        arguments = fronts (λ n. n .argument) (h .1) _ count _ _ (a .called .output-arguments-are) (b .called .output-arguments-are);
-        tags-behind = behind (λ n. n .tag) (h .1) _ count _ _ (a .called .output-tags-are) (b .called .output-tags-are);
-        arguments-behind = behind (λ n. n .argument) (h .1) _ count _ _ (a .called .output-arguments-are) (b .called .output-arguments-are);
+        nodes = writes-again (a .called) (b .called) (h .1) (told-count (first .answer) (a .called .meets));
       }
 
   normal : {c : Call} → IsCall M p s c → IsNormalForm (c .answer) → demands.IsNormal (defined c)
@@ -144,12 +160,12 @@ module _ {M : Machine} {p s : List ℕ} {first second : Call} (a : IsCall M p s 
   pub two-calls : TwoCalls first second
   two-calls =
       record {
-        normal-again = λ h n. again (stay .normal-again _ _ _ _ (limits-grow h) (normal a n));
+        normal-again = λ h n. again (stay .normal-again _ _ _ _ (limits-grow (h .budget) (h .arrays)) (normal a n));
         one-normal = λ n n′. again (stay .one-normal _ _ _ _ (normal a n) (normal b n′));
         changes =
             λ h.
             ⊎-map again
-            (λ w. change-told (first .answer) (subst (raising.MayChange _ _ _ _) (sym (a .called .answer-is)) w)) (stay .changes _ _ _ _ (limits-grow h));
+            (λ w. change-told (first .answer) (subst (raising.MayChange _ _ _ _) (sym (a .called .answer-is)) w)) (stay .changes _ _ _ _ (limits-grow (h .budget) (h .arrays)));
         file-refused = λ k e. again (stay .number-again _ _ _ _ (file.number k) (sym (a .called .answer-is) ∙ ap told e));
         prelude-refused = λ k e. again (stay .number-again _ _ _ _ (prelude.number k) (sym (a .called .answer-is) ∙ ap told e));
       }

@@ -37,18 +37,22 @@ pub record IsFileCall (M : Machine) (s : List ℕ) (c : Call) : Type 0 where
   pub refused : BlamesFile s (c .answer)
   pub called : Called M (fileGiven s) (c .budget) (c .answer) (c .before) (c .after)
 
--- the second call is given at least as much: its budget is at least as large, and each array that it is lent at least as long
+-- each of the nine arrays is at least as long
+pub record LentMore (m n : Memory) : Type 0 where
+  pub tags : length (m .tags) ≤ length (n .tags)
+  pub arguments : length (m .arguments) ≤ length (n .arguments)
+  pub codes : length (m .codes) ≤ length (n .codes)
+  pub owns : length (m .owns) ≤ length (n .owns)
+  pub nexts : length (m .nexts) ≤ length (n .nexts)
+  pub places : length (m .places) ≤ length (n .places)
+  pub renumber : length (m .renumber) ≤ length (n .renumber)
+  pub output-tags : length (m .output-tags) ≤ length (n .output-tags)
+  pub output-arguments : length (m .output-arguments) ≤ length (n .output-arguments)
+
+-- the second call is given at least as much: its budget is at least as large, and it is lent arrays that are at least as long
 pub record GivenMore (first second : Call) : Type 0 where
   pub budget : first .budget ≤ second .budget
-  pub tags : length (first .before .tags) ≤ length (second .before .tags)
-  pub arguments : length (first .before .arguments) ≤ length (second .before .arguments)
-  pub codes : length (first .before .codes) ≤ length (second .before .codes)
-  pub owns : length (first .before .owns) ≤ length (second .before .owns)
-  pub nexts : length (first .before .nexts) ≤ length (second .before .nexts)
-  pub places : length (first .before .places) ≤ length (second .before .places)
-  pub renumber : length (first .before .renumber) ≤ length (second .before .renumber)
-  pub output-tags : length (first .before .output-tags) ≤ length (second .before .output-tags)
-  pub output-arguments : length (first .before .output-arguments) ≤ length (second .before .output-arguments)
+  pub arrays : LentMore (first .before) (second .before)
 
 -- the nodes that a call writes, as its answer tells: those of the normal form, or none
 abbrev pub nodesTold : Answer → ℕ
@@ -56,14 +60,18 @@ nodesTold (FileRefused k) = 0
 nodesTold (PreludeRefused k) = 0
 nodesTold (Ran r) = nodesWritten (toldOutcome (r .outcome))
 
--- the second call answers what the first answers, with each count, figure and allowance, and writes what the first writes: the same nodes at
--- the front of the output arrays, and nothing behind them
+-- the second call writes what the first writes: the same n nodes at the front of the output arrays, and nothing behind them. The three are what
+-- the arrays hold after the first call, and before and after the second
+pub record WritesAgain (n : ℕ) (first-after before after : Memory) : Type 0 where
+  pub tags : take n (after .output-tags) ≡ take n (first-after .output-tags)
+  pub arguments : take n (after .output-arguments) ≡ take n (first-after .output-arguments)
+  pub tags-behind : drop n (after .output-tags) ≡ drop n (before .output-tags)
+  pub arguments-behind : drop n (after .output-arguments) ≡ drop n (before .output-arguments)
+
+-- it answers what the first answers, with each count, figure and allowance, and writes what the first writes
 pub record Again (first second : Call) : Type 0 where
   pub answer : second .answer ≡ first .answer
-  pub tags : take (nodesTold (first .answer)) (second .after .output-tags) ≡ take (nodesTold (first .answer)) (first .after .output-tags)
-  pub arguments : take (nodesTold (first .answer)) (second .after .output-arguments) ≡ take (nodesTold (first .answer)) (first .after .output-arguments)
-  pub tags-behind : drop (nodesTold (first .answer)) (second .after .output-tags) ≡ drop (nodesTold (first .answer)) (second .before .output-tags)
-  pub arguments-behind : drop (nodesTold (first .answer)) (second .after .output-arguments) ≡ drop (nodesTold (first .answer)) (second .before .output-arguments)
+  pub nodes : WritesAgain (nodesTold (first .answer)) (first .after) (second .before) (second .after)
 
 -- an answer with a normal form
 pub data IsNormalForm : Answer → Type 0 where

@@ -1,0 +1,154 @@
+-- What a second call from another language returns and writes, from the contracts of both. The idea: status and numbers are those of the
+-- defined answer, which stays where the stores are longer.
+-- Assumes nothing.
+use Prim.Native.Nat.{ℕ, _≤_, _<_}
+use mathlib.Core.Path.{_≡_, refl, sym, ap, subst, _∙_}
+use mathlib.Core.Bool.{cond}
+use mathlib.Core.List.{List}
+use mathlib.Core.Logic.{⊎-map}
+use native.Mathlib.Omega.{arith}
+use lib.Dec.{eqb}
+use lib.ListN.{length, getD}
+use Rattle.termfile.specs.Nodes.{Node}
+use Rattle.termfile.specs.Output.{overlay}
+use Rattle.tally.specs.Numbers.{number}
+use Rattle.machine.specs.declared.Machine.{Machine}
+use Rattle.machine.specs.Run.{Stores}
+use Rattle.machine.specs.Answer.{Given, Outcome, normal, spent, refused, Answer, number-alone, report, answer, written}
+use Rattle.machine.specs.Demands.{IsNormal, is-normal, Meets, bytes-refused, program-run}
+use Rattle.machine.specs.Raising as raising
+use Rattle.machine.proofs.Outcomes.{written-count}
+use Rattle.evaluator.specs.Promise.{storesIn, Called}
+use Rattle.evaluator.specs.declared.Answer as enum
+use Rattle.embed.specs.Embedding.{outcomeStatus, statusOf, refusalOf, numbersOf, EmbeddedOn, EmbeddedBy, on-machine, no-machine, namedBy}
+use Rattle.embed.specs.declared.Named.{Named}
+use Rattle.again.specs.Embedded.{EmbeddedCall, IsEmbeddedCall, EmbeddedAgain, EmbeddedChange, was-spent, was-refused, TwoEmbeddedCalls}
+use Rattle.again.proofs.Told.{runRefusal}
+use Rattle.again.proofs.Again.{limits-grow, longer-store, laid-fronts, laid-behind, writes-again}
+
+-- of an answer: as many numbers are told as its status says, and as many nodes as they say
+report-count : (o : Outcome) {A : Type 0} (x y : A) → cond (eqb (outcomeStatus o) 3) x y ≡ y
+report-count (normal n) x y = refl
+report-count spent x y = refl
+report-count (refused k) x y = refl
+
+numbers-count : (a : Answer) → cond (eqb (statusOf a) 3) 1 12 ≡ length (numbersOf a)
+numbers-count (number-alone k) = refl
+numbers-count (report q) = report-count (q .outcome) 1 12
+
+nodes-count : {M : Machine} {g : Given} {budget : ℕ} {st : Stores} {a : Answer} {ns : List Node} → Meets M g budget st a ns → (old : List ℕ)
+    → cond (eqb (statusOf a) 3) 0 (getD (overlay (numbersOf a) old) 1 0) ≡ length ns
+nodes-count (bytes-refused k e) old = refl
+nodes-count (program-run P r q ns e d h) old = report-count (q .outcome) 0 _ ∙ written-count d
+
+-- what a status tells of the answer
+status-normal : (a : Answer) → statusOf a ≡ 0 → IsNormal a
+status-normal (number-alone k) e = absurd (omega (arith, e))
+status-normal (report q) e = go (q .outcome) refl e
+  where
+    go : (o : Outcome) → q .outcome ≡ o → outcomeStatus o ≡ 0 → IsNormal (report q)
+    go (normal n) i e = is-normal q n i
+    go spent i e = absurd (omega (arith, e))
+    go (refused k) i e = absurd (omega (arith, e))
+
+status-alone : (a : Answer) → statusOf a ≡ 3 → (k : ℕ) × (a ≡ number-alone k)
+status-alone (number-alone k) e = (k, refl)
+status-alone (report q) e = absurd (go (q .outcome) e)
+  where
+    go : (o : Outcome) → outcomeStatus o ≡ 3 → ⊥
+    go (normal n) e = omega (arith, e)
+    go spent e = omega (arith, e)
+    go (refused k) e = omega (arith, e)
+
+number-of : {st st′ : Stores} {k : ℕ} → raising.Lengthened st st′ k → number (runRefusal k) ≡ k
+number-of (raising.Lengthened.cells l) = refl
+number-of (raising.Lengthened.nodes l) = refl
+number-of (raising.Lengthened.names l) = refl
+number-of (raising.Lengthened.renumber l) = refl
+number-of (raising.Lengthened.output l) = refl
+
+module _ (first second : EmbeddedCall) where
+  change-told : (a : Answer) → raising.MayChange (first .budget) (second .budget) (storesIn (first .before)) (storesIn (second .before)) a
+      → first .status ≡ statusOf a → first .report ≡ overlay (numbersOf a) (first .report-before) → EmbeddedChange first second
+  change-told _ (raising.was-spent q e l) i r = was-spent (i ∙ ap outcomeStatus e) l
+  change-told _ (raising.was-refused q k e l) i r =
+      was-refused (runRefusal k) (i ∙ ap outcomeStatus e) (ap (λ v. getD v 0 0) r ∙ ap refusalOf e ∙ sym (number-of l))
+      (longer-store (first .before) (second .before) l (runRefusal k) (number-of l))
+
+-- a call that is made, as its report array is long enough
+record Made (M : Machine) (g : Given) (c : EmbeddedCall) : Type 0 where
+  answered : enum.Answer
+  called : Called M g (c .budget) answered (c .before) (c .after)
+  status-is : c .status ≡ statusOf (answer M g (c .budget) (storesIn (c .before)))
+  report-is : c .report ≡ overlay (numbersOf (answer M g (c .budget) (storesIn (c .before)))) (c .report-before)
+
+abbrev On : Machine → Given → EmbeddedCall → Type 0
+On M g c = EmbeddedOn M g (c .budget) (c .status) (c .before) (c .after) (c .report-before) (c .report)
+
+made : {M : Machine} {g : Given} {c : EmbeddedCall} → On M g c → 12 ≤ length (c .report-before) → Made M g c
+made e l = record { answered = e .called l .0; called = e .called l .1; status-is = e .status l; report-is = e .numbers l }
+
+-- a status of 0 to 3 is that of a call which is made
+status-made : {M : Machine} {g : Given} {c : EmbeddedCall} → On M g c → c .status ≤ 3 → Made M g c
+status-made {c = c} e l = made e (omega (arith, long))
+  where
+    long : length (c .report-before) < 12 → ⊥
+    long short = omega (arith, l, e .short-status short)
+
+module _ {M : Machine} {g : Given} {first second : EmbeddedCall} (a : Made M g first) (b : Made M g second) where
+  abbrev defined : EmbeddedCall → Answer
+  defined c = answer M g (c .budget) (storesIn (c .before))
+
+  abbrev nodes : EmbeddedCall → List Node
+  nodes c = written M g (c .budget) (storesIn (c .before))
+
+  again : raising.Again (defined first) (nodes first) (defined second) (nodes second) → EmbeddedAgain first second
+  again h =
+      let numbers = ap (λ k. cond (eqb k 3) 1 12) (a .status-is) ∙ numbers-count (defined first) in
+      let laid = b .report-is ∙ ap (λ v. overlay (numbersOf v) (second .report-before)) (h .0) in
+      record {
+        status = b .status-is ∙ ap statusOf (h .0) ∙ sym (a .status-is);
+        report = laid-fronts (numbersOf (defined first)) numbers (first .report-before) (second .report-before) (a .report-is) laid;
+        report-behind = laid-behind (numbersOf (defined first)) numbers (second .report-before) laid;
+        nodes = writes-again (a .called) (b .called) (h .1) count;
+      }
+    where
+      count : cond (eqb (first .status) 3) 0 (getD (first .report) 1 0) ≡ length (nodes first)
+      count =
+          ap (λ k. cond (eqb k 3) 0 (getD (first .report) 1 0)) (a .status-is)
+          ∙ ap (λ r. cond (eqb (statusOf (defined first)) 3) 0 (getD r 1 0)) (a .report-is)
+          ∙ nodes-count (subst (λ v. Meets M g (first .budget) (storesIn (first .before)) v (nodes first)) (a .called .answer-is) (a .called .meets)) (first .report-before)
+
+two : {g : Given} {first second : EmbeddedCall} (n : Named) → EmbeddedBy g (first .budget) (first .status) (first .before) (first .after) (first .report-before) (first .report) n
+    → EmbeddedBy g (second .budget) (second .status) (second .before) (second .after) (second .report-before) (second .report) n → TwoEmbeddedCalls first second
+two {g} {first} {second} _ (on-machine M e) (on-machine _ i) =
+    record {
+      normal-again =
+          λ l h r n.
+          let a = status-made e (omega (arith, n)) in
+          again a (made i r) (a .called .stays .normal-again _ _ _ _ (limits-grow l h) (status-normal _ (sym (a .status-is) ∙ n)));
+      one-normal =
+          λ n n′.
+          let a = status-made e (omega (arith, n)) in
+          let b = status-made i (omega (arith, n′)) in
+          again a b (a .called .stays .one-normal _ _ _ _ (status-normal _ (sym (a .status-is) ∙ n)) (status-normal _ (sym (b .status-is) ∙ n′)));
+      changes =
+          λ l h r n.
+          let a = status-made e n in
+          ⊎-map (again a (made i r)) (λ w. change-told first second _ w (a .status-is) (a .report-is)) (a .called .stays .changes _ _ _ _ (limits-grow l h));
+      bytes-refused =
+          λ r n.
+          let a = status-made e (omega (arith, n)) in
+          let w = status-alone _ (sym (a .status-is) ∙ n) in
+          again a (made i r) (a .called .stays .number-again _ _ _ _ (w .0) (w .1));
+    }
+two _ (no-machine e) (no-machine i) =
+    record {
+      normal-again = λ l h r n. absurd (omega (arith, n, e .status-five));
+      one-normal = λ n n′. absurd (omega (arith, n, e .status-five));
+      changes = λ l h r n. absurd (omega (arith, n, e .status-five));
+      bytes-refused = λ r n. absurd (omega (arith, n, e .status-five));
+    }
+
+pub two-embedded-calls : (k : ℕ) {g : Given} {first second : EmbeddedCall} → IsEmbeddedCall k g first → IsEmbeddedCall k g second → TwoEmbeddedCalls first second
+two-embedded-calls k a b = two (namedBy k) a b
