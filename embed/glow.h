@@ -101,6 +101,9 @@ enum glow_tag { GLOW_VARIABLE = 0, GLOW_ABSTRACTION = 1, GLOW_APPLICATION = 2 };
 
 /* The budget counts beta steps. After the last one that it allows the run goes on until no step fits, a store is full or
    another beta is next; so GLOW_SPENT means that the term has a further beta step. Every call ends, whatever the budget.
+   With the same machine and bytes, a budget at least as large and arrays each at least as long, GLOW_NORMAL comes again, with
+   the same report and the same term, and GLOW_FILE_REFUSED with the same number; GLOW_SPENT changes only where the budget is
+   larger, and GLOW_REFUSED only where the store of its number is longer.
    No two arrays may overlap. Where a length is 0 the pointer may be anything, null too. */
 uint32_t glow_evaluate(
     uint32_t machine,                                                           /* of glow_machine */

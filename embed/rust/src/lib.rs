@@ -250,6 +250,10 @@ impl Stores {
     /// run goes on until no step fits, a store is full or another beta is next; so [`Outcome::Spent`] says that the term has
     /// a further beta step. Every call ends, whatever the budget.
     ///
+    /// With the same machine and bytes, a budget at least as large and arrays each at least as long, a normal answer comes again
+    /// and is equal, and so does a refusal of the bytes. [`Outcome::Spent`] changes only where the budget is larger, and
+    /// [`Outcome::Refused`] only where the store that it names is longer.
+    ///
     /// Where less stack is left than
     /// [`Stores::stack_needed`] tells, or it is not known how much, the call is made on a thread of its own.
     ///
