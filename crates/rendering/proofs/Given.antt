@@ -19,7 +19,7 @@ use Rattle.machine.specs.Conditions.{Condition, result-fits, result-refused, ru
 use Rattle.termfile.specs.Output.{overlay}
 use Rattle.machine.specs.Program.{Program, applicationsOf}
 use Rattle.machine.specs.Answer.{Given, Outcome, nodesWritten, Report, Answer, written, outputLimit}
-use Rattle.machine.specs.Demands.{Demand2, Demand3, Meets, bytes-refused, program-run}
+use Rattle.machine.specs.Demands.{Demand3, Meets, bytes-refused, program-run}
 use Rattle.machine.proofs.Outcomes.{written-count}
 use Rattle.evaluator.specs.Calling.{told, mostCounted}
 use Rattle.evaluator.proofs.Promises.{Few}
