@@ -74,7 +74,7 @@ try() {
 }
 
 why=$(build) || { echo "the plain machine $why"; exit 1; }
-if run_tests "${tests[@]}" --test preludes --test binary; then echo "nothing wrong: passes"; else echo "nothing wrong: FAILED, see $scratch/log"; exit 1; fi
+if run_tests "${tests[@]}" --test preludes --test raising --test binary; then echo "nothing wrong: passes"; else echo "nothing wrong: FAILED, see $scratch/log"; exit 1; fi
 
 # Where entries are wrong, a name or a stack may be a part of itself. To unfold it would not end; it is given up as too long.
 ends=("sums.push(0);" "if sums.len() > names { return None; } sums.push(0);"
@@ -309,6 +309,45 @@ source=$calls
 try "prelude: left out of the call" "evaluate_with(machine, slice(prelude, prelude_len)," "evaluate_with(machine, if prelude_len == 0 { &[] } else { &[0, 0] },"
 try "prelude: a null pointer taken for no definition" "slice(prelude, prelude_len), slice(file" "if prelude.is_null() { &[0, 0] } else { slice(prelude, prelude_len) }, slice(file"
 source=$machine
+
+# larger budgets and longer stores: what is lent told for what is taken, and answers that go with the room that is left
+tests=(--test raising)
+figures="nodes as u64, cells as u64, names as u64,"
+renumbering="if s.renumber.len() < names { break 'run 11; }"
+fits="Some(k) => { written = k; break 'run 0; }"
+too_long="None => break 'run 12,"
+try "raising: the nodes lent told where the run is normal" "$figures" "if outcome == 0 { cap } else { nodes } as u64, cells as u64, names as u64,"
+try "raising: the cells lent told where the run is normal" "$figures" "nodes as u64, if outcome == 0 { cells_cap } else { cells } as u64, names as u64,"
+try "raising: the names lent told where the run is spent" "$figures" "nodes as u64, cells as u64, if outcome == 100 { names_cap } else { names } as u64,"
+try "raising: the output's length told for the nodes written" "outcome }, written as u64," "outcome }, if outcome == 0 { s.out_tags.len().min(s.out_args.len()) } else { 0 } as u64,"
+try "raising: the subst allowance by the budget" "$allowed" "if ON_DEMAND { beta + 1 } else { (1 + budget as u64) * vars }"
+try "raising: the subst allowance on demand by the budget" "$allowed" "if ON_DEMAND { budget as u64 + 1 } else { (1 + beta) * vars }"
+try "raising: the shift allowance by the budget" "(1 + beta) * 2 * apps" "(1 + budget as u64) * 2 * apps"
+try "raising: a leave more told where some of the budget is left" "$fits" "Some(k) => { written = k; if beta < budget as u64 { inert += 1; } break 'run 0; }"
+try "raising: leave-fun told as leave-inert where every cell is taken" "if t == 1 { fun += 1 }" "if t == 1 && cells < cells_cap { fun += 1 }"
+try "raising: binders numbered one on where the renumber store is longer than needed" "(0usize, f);" "(0usize, f + usize::from(s.renumber.len() > names));"
+try "raising: a node written past the term where there is room" "    Some(n)
+}" "    if n < room { s.out_tags[n] = 0; s.out_args[n] = 0; }
+    Some(n)
+}"
+try "raising: refused by 8 for spent where every cell is taken" "$asked" "if beta == budget as u64 { break 'run if cells == cells_cap { 8 } else { 100 }; }"
+try "raising: one beta more where half of the nodes are left" "$asked" "if beta >= budget as u64 + u64::from(cap >= 2 * nodes) { break 'run 100; }"
+try "raising: spent where the last allowed beta has been made, and no step fits" "if dump == 0 {" "if dump == 0 {
+                        if beta > 0 && beta == budget as u64 { break 'run 100; }"
+try "raising: spent at loading with no budget where names are short" "names = 0; break 'run 10; }" "names = 0; break 'run if budget == 0 { 100 } else { 10 }; }"
+try "raising: the first machine on demand with a large budget" "        0 => run::<false>" "        0 if budget > 99 => run::<true>(p, b, budget, s, report),
+        0 => run::<false>"
+try "raising: a stop where subst is due with dump and stack empty, and nodes are left" "if s.tags[from] == 1 {" "if s.tags[from] == 1 && (dump != 0 || stack != 0 || nodes + 8 > cap) {"
+try "raising: on demand the last allowed beta makes an entry of a bare variable" "$bare" "if ON_DEMAND && beta + 1 < budget as u64 && s.owns[top] == 0 && s.tags[s.codes[top] as usize] == 0 {"
+try "raising: as many elements of the renumber store asked for as names are lent" "$renumbering" "if s.renumber.len() < names_cap { break 'run 11; }"
+try "raising: 12 for 11 where the output is longer than the names in use" "$renumbering" "if s.renumber.len() < names { break 'run if s.out_tags.len().min(s.out_args.len()) > names { 12 } else { 11 }; }"
+try "raising: 11 for 12 where the renumber store is longer than needed" "$too_long" "None => break 'run if s.renumber.len() > names { 11 } else { 12 },"
+try "raising: 10 before 9 at subst where a cell is left" "$nodes" "if cells < cells_cap && names + binders > names_cap { break 'run 10; } $nodes"
+try "raising: nodes counted with 16 bits" "s.tags.len().min(s.args.len()).min(32_768)" "(s.tags.len().min(s.args.len()) as u16 as usize).min(32_768)"
+try "raising: the renumber store counted with 16 bits" "$renumbering" "if (s.renumber.len() as u16 as usize) < names { break 'run 11; }"
+try "raising: the output counted with 16 bits" "s.out_tags.len().min(s.out_args.len()).min(16_384)" "(s.out_tags.len().min(s.out_args.len()) as u16 as usize).min(16_384)"
+try "raising: 2 for 4 to 7 where the nodes of the file are more than those lent" "    let bad = check(b);" "    let bad = match check(b) { 4.. if word(b, 2) > s.tags.len().min(s.args.len()) => 2, bad => bad };"
+try "raising: 17 for each refusal of a prelude with no budget" "$refused" "Err(bad) => { report[0] = if budget == 0 { 17 } else { bad }; return 3; }"
 tests=("${all[@]}")
 
 try "10 before 9 at loading" "if n > cap { nodes = 0; names = 0; break 'run 9; }" "if names0 > names_cap { nodes = 0; names = 0; break 'run 10; } if n > cap { nodes = 0; names = 0; break 'run 9; }"
