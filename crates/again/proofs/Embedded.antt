@@ -8,9 +8,10 @@ use mathlib.Core.List.{List}
 use mathlib.Core.Logic.{⊎-map}
 use native.Mathlib.Omega.{arith}
 use lib.Dec.{eqb}
-use lib.ListN.{length, getD}
+use lib.ListN.{length, take, drop, getD}
 use Rattle.termfile.specs.Nodes.{Node}
 use Rattle.termfile.specs.Output.{overlay}
+use Rattle.termfile.proofs.Overlay.{overlay-drop}
 use Rattle.tally.specs.Numbers.{number}
 use Rattle.machine.specs.declared.Machine.{Machine}
 use Rattle.machine.specs.Run.{Stores}
@@ -22,9 +23,9 @@ use Rattle.evaluator.specs.Promise.{storesIn, Called}
 use Rattle.evaluator.specs.declared.Answer as enum
 use Rattle.embed.specs.Embedding.{outcomeStatus, statusOf, refusalOf, numbersOf, EmbeddedOn, EmbeddedBy, on-machine, no-machine, namedBy}
 use Rattle.embed.specs.declared.Named.{Named}
-use Rattle.again.specs.Embedded.{EmbeddedCall, IsEmbeddedCall, EmbeddedAgain, EmbeddedChange, was-spent, was-refused, TwoEmbeddedCalls}
+use Rattle.again.specs.Embedded.{EmbeddedCall, IsEmbeddedCall, IsEmbeddedFileCall, numbersReported, EmbeddedAgain, MayReturnElse, was-spent, was-refused, EmbeddedMore, TwoEmbeddedCalls}
 use Rattle.again.proofs.Told.{runRefusal}
-use Rattle.again.proofs.Again.{limits-grow, longer-store, laid-fronts, laid-behind, writes-again}
+use Rattle.again.proofs.Again.{limits-grow, longer-store, overlay-fronts, writes-again}
 
 -- of an answer: as many numbers are told as its status says, and as many nodes as they say
 report-count : (o : Outcome) {A : Type 0} (x y : A) → cond (eqb (outcomeStatus o) 3) x y ≡ y
@@ -69,7 +70,7 @@ number-of (raising.Lengthened.output l) = refl
 
 module _ (first second : EmbeddedCall) where
   change-told : (a : Answer) → raising.MayChange (first .budget) (second .budget) (storesIn (first .before)) (storesIn (second .before)) a
-      → first .status ≡ statusOf a → first .report ≡ overlay (numbersOf a) (first .report-before) → EmbeddedChange first second
+      → first .status ≡ statusOf a → first .report-after ≡ overlay (numbersOf a) (first .report-before) → MayReturnElse first second
   change-told _ (raising.was-spent q e l) i r = was-spent (i ∙ ap outcomeStatus e) l
   change-told _ (raising.was-refused q k e l) i r =
       was-refused (runRefusal k) (i ∙ ap outcomeStatus e) (ap (λ v. getD v 0 0) r ∙ ap refusalOf e ∙ sym (number-of l))
@@ -80,10 +81,10 @@ record Made (M : Machine) (g : Given) (c : EmbeddedCall) : Type 0 where
   answered : enum.Answer
   called : Called M g (c .budget) answered (c .before) (c .after)
   status-is : c .status ≡ statusOf (answer M g (c .budget) (storesIn (c .before)))
-  report-is : c .report ≡ overlay (numbersOf (answer M g (c .budget) (storesIn (c .before)))) (c .report-before)
+  report-is : c .report-after ≡ overlay (numbersOf (answer M g (c .budget) (storesIn (c .before)))) (c .report-before)
 
 abbrev On : Machine → Given → EmbeddedCall → Type 0
-On M g c = EmbeddedOn M g (c .budget) (c .status) (c .before) (c .after) (c .report-before) (c .report)
+On M g c = EmbeddedOn M g (c .budget) (c .status) (c .before) (c .after) (c .report-before) (c .report-after)
 
 made : {M : Machine} {g : Given} {c : EmbeddedCall} → On M g c → 12 ≤ length (c .report-before) → Made M g c
 made e l = record { answered = e .called l .0; called = e .called l .1; status-is = e .status l; report-is = e .numbers l }
@@ -104,38 +105,46 @@ module _ {M : Machine} {g : Given} {first second : EmbeddedCall} (a : Made M g f
 
   again : raising.Again (defined first) (nodes first) (defined second) (nodes second) → EmbeddedAgain first second
   again h =
-      let numbers = ap (λ k. cond (eqb k 3) 1 12) (a .status-is) ∙ numbers-count (defined first) in
-      let laid = b .report-is ∙ ap (λ v. overlay (numbersOf v) (second .report-before)) (h .0) in
+      let numbers = sym (ap (λ k. cond (eqb k 3) 1 12) (a .status-is) ∙ numbers-count (defined first)) in
+      let laid = b .report-is ∙ ap (λ v. overlay (numbersOf v) (second .report-before)) (h .answer) in
       record {
-        status = b .status-is ∙ ap statusOf (h .0) ∙ sym (a .status-is);
-        report = laid-fronts (numbersOf (defined first)) numbers (first .report-before) (second .report-before) (a .report-is) laid;
-        report-behind = laid-behind (numbersOf (defined first)) numbers (second .report-before) laid;
-        nodes = writes-again (a .called) (b .called) (h .1) count;
+        status = b .status-is ∙ ap statusOf (h .answer) ∙ sym (a .status-is);
+        report =
+            ap (take (numbersReported first)) laid
+            ∙ overlay-fronts (numbersOf (defined first)) (numbersReported first) numbers (first .report-before) (second .report-before)
+            ∙ ap (take (numbersReported first)) (sym (a .report-is));
+        report-behind = ap (drop (numbersReported first)) laid ∙ overlay-drop (numbersOf (defined first)) (second .report-before) (numbersReported first) numbers;
+        nodes = writes-again (a .called) (b .called) (h .nodes) count;
       }
     where
-      count : cond (eqb (first .status) 3) 0 (getD (first .report) 1 0) ≡ length (nodes first)
+      count : cond (eqb (first .status) 3) 0 (getD (first .report-after) 1 0) ≡ length (nodes first)
       count =
-          ap (λ k. cond (eqb k 3) 0 (getD (first .report) 1 0)) (a .status-is)
+          ap (λ k. cond (eqb k 3) 0 (getD (first .report-after) 1 0)) (a .status-is)
           ∙ ap (λ r. cond (eqb (statusOf (defined first)) 3) 0 (getD r 1 0)) (a .report-is)
           ∙ nodes-count (subst (λ v. Meets M g (first .budget) (storesIn (first .before)) v (nodes first)) (a .called .answer-is) (a .called .meets)) (first .report-before)
 
-two : {g : Given} {first second : EmbeddedCall} (n : Named) → EmbeddedBy g (first .budget) (first .status) (first .before) (first .after) (first .report-before) (first .report) n
-    → EmbeddedBy g (second .budget) (second .status) (second .before) (second .after) (second .report-before) (second .report) n → TwoEmbeddedCalls first second
+grown : {first second : EmbeddedCall} → EmbeddedMore first second
+    → raising.Raised (first .budget) (second .budget) (storesIn (first .before)) (storesIn (second .before))
+grown {first} {second} h = limits-grow (first .budget) (second .budget) (first .before) (second .before) (h .budget) (h .stores)
+
+-- by what the number names, for both calls
+two : {g : Given} {first second : EmbeddedCall} (n : Named) → EmbeddedBy g (first .budget) (first .status) (first .before) (first .after) (first .report-before) (first .report-after) n
+    → EmbeddedBy g (second .budget) (second .status) (second .before) (second .after) (second .report-before) (second .report-after) n → TwoEmbeddedCalls first second
 two {g} {first} {second} _ (on-machine M e) (on-machine _ i) =
     record {
       normal-again =
-          λ l h r n.
+          λ h n.
           let a = status-made e (omega (arith, n)) in
-          again a (made i r) (a .called .stays .normal-again _ _ _ _ (limits-grow l h) (status-normal _ (sym (a .status-is) ∙ n)));
+          again a (made i (h .report)) (a .called .stays .normal-again _ _ _ _ (grown h) (status-normal _ (sym (a .status-is) ∙ n)));
       one-normal =
           λ n n′.
           let a = status-made e (omega (arith, n)) in
           let b = status-made i (omega (arith, n′)) in
           again a b (a .called .stays .one-normal _ _ _ _ (status-normal _ (sym (a .status-is) ∙ n)) (status-normal _ (sym (b .status-is) ∙ n′)));
       changes =
-          λ l h r n.
+          λ h n.
           let a = status-made e n in
-          ⊎-map (again a (made i r)) (λ w. change-told first second _ w (a .status-is) (a .report-is)) (a .called .stays .changes _ _ _ _ (limits-grow l h));
+          ⊎-map (again a (made i (h .report))) (λ w. change-told first second _ w (a .status-is) (a .report-is)) (a .called .stays .changes _ _ _ _ (grown h));
       bytes-refused =
           λ r n.
           let a = status-made e (omega (arith, n)) in
@@ -144,11 +153,16 @@ two {g} {first} {second} _ (on-machine M e) (on-machine _ i) =
     }
 two _ (no-machine e) (no-machine i) =
     record {
-      normal-again = λ l h r n. absurd (omega (arith, n, e .status-five));
+      normal-again = λ h n. absurd (omega (arith, n, e .status-five));
       one-normal = λ n n′. absurd (omega (arith, n, e .status-five));
-      changes = λ l h r n. absurd (omega (arith, n, e .status-five));
+      changes = λ h n. absurd (omega (arith, n, e .status-five));
       bytes-refused = λ r n. absurd (omega (arith, n, e .status-five));
     }
 
-pub two-embedded-calls : (k : ℕ) {g : Given} {first second : EmbeddedCall} → IsEmbeddedCall k g first → IsEmbeddedCall k g second → TwoEmbeddedCalls first second
-two-embedded-calls k a b = two (namedBy k) a b
+pub two-embedded-calls : (k : ℕ) (p s : List ℕ) {first second : EmbeddedCall} → IsEmbeddedCall k p s first → IsEmbeddedCall k p s second
+    → TwoEmbeddedCalls first second
+two-embedded-calls k p s a b = two (namedBy k) a b
+
+pub two-embedded-file-calls : (k : ℕ) (s : List ℕ) {first second : EmbeddedCall} → IsEmbeddedFileCall k s first → IsEmbeddedFileCall k s second
+    → TwoEmbeddedCalls first second
+two-embedded-file-calls k s a b = two (namedBy k) a b

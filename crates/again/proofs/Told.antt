@@ -110,11 +110,11 @@ report-from r =
       «shift_allowance» = r .«shift_allowance»;
     }) (outcome-from (r .outcome))
 
-reports-same : {q q′ : machine.Report} → machine.report q ≡ machine.report q′ → q ≡ q′
+pub reports-same : {q q′ : machine.Report} → machine.report q ≡ machine.report q′ → q ≡ q′
 reports-same e = cc
 
 -- a number alone is no report
-not-alone : {k : ℕ} {q : machine.Report} → machine.number-alone k ≡ machine.report q → ⊥
+pub not-alone : {k : ℕ} {q : machine.Report} → machine.number-alone k ≡ machine.report q → ⊥
 not-alone e = let z : _≡_ {A = ℕ} 0 1 = cc in omega arith
 
 module _ (p s : List ℕ) where

@@ -1,6 +1,5 @@
 -- Every answer that `evaluate_with` gives can be told, and the nodes at the front of the output arrays are those that the call writes. What is
--- used of the demands stands here: the result fits the output, what is written has as many nodes as the outcome says, and the shifting steps
--- are within their allowance.
+-- used of the demands stands here: the result fits the output, and the shifting steps are within their allowance.
 -- Letters: P is a program, g what the bytes give, st the stores' lengths, a is the answer, ns are the nodes written, ts and ms the output arrays.
 -- Assumes nothing.
 use Prim.Native.Nat.{ℕ, _+_, _*_, _^_, _≤_, _<_, zero-le}
@@ -9,7 +8,7 @@ use mathlib.Core.List.{List, [], _∷_, map}
 use native.Mathlib.Omega.{arith}
 use native.Mathlib.Nat.{le-refl, mul-le-mul-left}
 use lib.ListN.{length, take, drop, length-append, length-map}
-use lib.Seq.{take-append-seam, take-length}
+use lib.Seq.{take-length}
 use Rattle.termfile.specs.Nodes.{Node}
 use Rattle.termfile.specs.File.{pairs}
 use Rattle.machine.specs.declared.Machine.{Machine}
@@ -17,6 +16,7 @@ use Rattle.machine.specs.Steps.{Kind, Move}
 use Rattle.machine.specs.Run.{Stores, Run, counted, shifts, shiftAllowance}
 use Rattle.machine.specs.Conditions.{Condition, result-fits, result-refused, run-spent, run-refused}
 use Rattle.termfile.specs.Output.{overlay}
+use Rattle.termfile.proofs.Overlay.{overlay-take}
 use Rattle.machine.specs.Program.{Program, applicationsOf}
 use Rattle.machine.specs.Answer.{Given, Outcome, nodesWritten, Report, Answer, written, outputLimit}
 use Rattle.machine.specs.Demands.{Demand3, Meets, bytes-refused, program-run}
@@ -62,10 +62,6 @@ pairs-split : (ns : List Node) → pairs (map (λ n. n .tag) ns) (map (λ n. n .
 pairs-split [] = refl
 pairs-split (n ∷ ns) = ap (λ rest. n ∷ rest) (pairs-split ns)
 
--- the front of an array over which a list is laid
-overlay-front : (new old : List ℕ) → take (length new) (overlay new old) ≡ new
-overlay-front new old = take-append-seam new (drop (length new) old)
-
 overlay-longer : (new old : List ℕ) → length new ≤ length (overlay new old)
 overlay-longer new old = omega (arith, length-append new (drop (length new) old))
 
@@ -95,8 +91,8 @@ meets-given few limit small (program-run P r q ns e two three) ts ms =
           ap (λ n. pairs (take n (overlay tags ts)) (take n (overlay arguments ms))) count
           ∙ ap (λ n. pairs (take n (overlay tags ts)) (take (length ns) (overlay arguments ms))) (sym tags-count)
           ∙ ap (λ n. pairs (take (length tags) (overlay tags ts)) (take n (overlay arguments ms))) (sym arguments-count)
-          ∙ ap (λ l. pairs l (take (length arguments) (overlay arguments ms))) (overlay-front tags ts)
-          ∙ ap (pairs tags) (overlay-front arguments ms)
+          ∙ ap (λ l. pairs l (take (length arguments) (overlay arguments ms))) (overlay-take tags ts (length tags) refl)
+          ∙ ap (pairs tags) (overlay-take arguments ms (length arguments) refl)
           ∙ pairs-split ns;
     }
 

@@ -2,6 +2,7 @@ pub mod Reading
 pub mod Loose
 pub mod Naming
 pub mod Sets
+pub mod Overlay
 pub mod Bytes
 pub mod Refusals
 pub mod Acceptance

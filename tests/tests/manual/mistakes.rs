@@ -92,6 +92,7 @@ fn mistakes_are_found_out() {
     found_out(promises, "| `output-is` |", "| `answer-is` |");
     found_out(promises, "| `names-kept` |", "| `names` |");
     found_out(promises, "`short-output` |", "`short-memory` |");
+    found_out(promises, "| `one-normal` |", "| `normal-one` |");
     found_out(definitions, "[`harmony`]", "[`harmonies`]");
     found_out(definitions, "[`exchangeStatus`]", "[`statusOf`]");
     found_out(|text| links_lead(&root().join("docs/REFERENCE.md"), text), "specs/Calculus.antt", "specs/Calculs.antt");

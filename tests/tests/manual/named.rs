@@ -145,7 +145,7 @@ pub fn promises(text: &str) -> Checked {
 
 #[test]
 fn each_promise() {
-    assert_eq!(promises(&manual()), Ok(7));
+    assert_eq!(promises(&manual()), Ok(8));
     assert!(fields(&root().join("crates/evaluator/specs/Promise.antt"), "Called").len() >= 15);
 }
 
