@@ -4,7 +4,7 @@
 use Prim.Native.Nat.{ℕ, _≤_, _<_, min}
 use mathlib.Core.Path.{_≡_, refl, sym, ap, subst, _∙_}
 use mathlib.Core.List.{List, map}
-use mathlib.Core.Logic.{_⊎_, ⊎-map}
+use mathlib.Core.Logic.{⊎-map}
 use native.Mathlib.Omega.{arith}
 use native.Mathlib.Nat.{le-refl}
 use lib.ListN.{length, take, drop, length-map}
@@ -19,7 +19,7 @@ use Rattle.tally.specs.declared.Refusal.{Refusal}
 use Rattle.tally.specs.declared.Refusal.the-variants.{Cells, Nodes, Names, Renumber, Output}
 use Rattle.machine.specs.declared.Machine.{Machine}
 use Rattle.machine.specs.Program.{Program}
-use Rattle.machine.specs.Steps.{Kind, Move}
+use Rattle.machine.specs.Steps.{Kind}
 use Rattle.machine.specs.Run.{Stores, counted}
 use Rattle.machine.specs.Answer as machine
 use Rattle.machine.specs.Answer.{Given, given, answer, written}
@@ -35,10 +35,10 @@ use Rattle.evaluator.specs.declared.Outcome.the-variants.{Normal, Spent, Refuse
 use Rattle.evaluator.specs.declared.Report.{Report}
 use Rattle.evaluator.specs.declared.Answer.{Answer}
 use Rattle.evaluator.specs.declared.Answer.the-variants.{FileRefused, PreludeRefused, Ran}
-use Rattle.again.specs.Again.{Call, IsCall, IsFileCall, storeFor, StoresLonger, ArraysLonger, GivenMore, nodesIn, nodesTold, WritesAgain, CalledAgain, IsNormalForm, is-normal-form, MayAnswerElse, was-spent, was-refused, CountsGrow, TwoCalls}
-use Rattle.again.proofs.Told.{runRefusal, run-refusal, outcomeFrom, outcome-from, reports-same, not-alone, told-same}
+use Rattle.again.specs.Again.{Call, IsCall, IsFileCall, storeFor, StoresLonger, ArraysLonger, GivenMore, nodesOf, nodesTold, WritesAgain, CalledAgain, IsNormalForm, is-normal-form, MayAnswerElse, was-spent, was-refused, CountsGrow, TwoCalls}
+use Rattle.again.proofs.Told.{runRefusalOf, run-refusal, outcomeFrom, outcome-from, reports-same, not-alone, told-same}
 
--- two arrays that are at least as long have a least length that is at least as long
+-- the smaller of two numbers is at least as large where both are
 min-grows : {a b c d : ℕ} → a ≤ c → b ≤ d → min a b ≤ min c d
 min-grows l h = omega (arith, l, h)
 
@@ -57,11 +57,17 @@ limits-grow budget budget′ m m′ l h =
       longer = record { nodes = h Nodes; cells = h Cells; names = h Names; renumber = h Renumber; output = h Output };
     }
 
+-- a run with larger limits makes no fewer steps of any kind
+pub steps-grow : (M : Machine) (P : Program) (budget budget′ : ℕ) (st st′ : Stores) → raising.RunsExtend (machine.programRun M P)
+    → raising.Raised budget budget′ st st′ → (k : Kind)
+    → counted k (machine.programRun M P budget st .steps) ≤ counted k (machine.programRun M P budget′ st′ .steps)
+steps-grow M P budget budget′ st st′ extend raised k = beginning-counts k _ _ (extend .begins budget budget′ st st′ raised)
+
 -- the store of a refusal, by its number
 pub longer-store : (m n : Memory) {k : ℕ} → raising.Lengthened (storesIn m) (storesIn n) k → (j : Refusal) → number j ≡ k → storeFor j m < storeFor j n
-longer-store m n l j e = subst (λ v. storeFor v m < storeFor v n) (sym (ap runRefusal e) ∙ run-refusal j) (by l)
+longer-store m n l j e = subst (λ v. storeFor v m < storeFor v n) (sym (ap runRefusalOf e) ∙ run-refusal j) (by l)
   where
-    by : {k : ℕ} → raising.Lengthened (storesIn m) (storesIn n) k → storeFor (runRefusal k) m < storeFor (runRefusal k) n
+    by : {k : ℕ} → raising.Lengthened (storesIn m) (storesIn n) k → storeFor (runRefusalOf k) m < storeFor (runRefusalOf k) n
     by (raising.Lengthened.cells l) = l
     by (raising.Lengthened.nodes l) = l
     by (raising.Lengthened.names l) = l
@@ -104,7 +110,7 @@ module _ {M : Machine} {g : Given} {budget budget′ : ℕ} {q q′ : Answer} {m
       }
 
 -- as many nodes are written as the answer tells
-told-nodes : (o : Outcome) → nodesIn o ≡ machine.nodesWritten (toldOutcome o)
+told-nodes : (o : Outcome) → nodesOf o ≡ machine.nodesWritten (toldOutcome o)
 told-nodes (Normal n) = refl
 told-nodes Spent = refl
 told-nodes (Refused k) = refl
@@ -163,14 +169,13 @@ module _ {M : Machine} {p s : List ℕ} {first second : Call} (a : IsCall M p s 
       → toldReport r ≡ machine.reportOf M P (storesIn (c .before)) (machine.programRun M P (c .budget) (storesIn (c .before)))
   told-run {c} h P e r i = reports-same (sym (ap told i) ∙ h .called .answer-is ∙ ap (λ v. answer M v (c .budget) (storesIn (c .before))) e)
 
-  abbrev steps : Program → Call → List Move
-  steps P c = machine.programRun M P (c .budget) (storesIn (c .before)) .steps
-
   counts-grow : GivenMore first second → (r r′ : Report) → first .answer ≡ Ran r → second .answer ≡ Ran r′ → CountsGrow r r′
   counts-grow h r r′ i i′ = by g refl
     where
-      more : (P : Program) → g ≡ machine.program P → (k : Kind) → counted k (steps P first) ≤ counted k (steps P second)
-      more P e k = beginning-counts k (steps P first) (steps P second) (a .called .extends P e .begins _ _ _ _ (grown h))
+      more : (P : Program) → g ≡ machine.program P → (k : Kind)
+          → counted k (machine.programRun M P (first .budget) (storesIn (first .before)) .steps)
+          ≤ counted k (machine.programRun M P (second .budget) (storesIn (second .before)) .steps)
+      more P e k = steps-grow M P _ _ _ _ (a .called .extends P e) (grown h) k
 
       by : (v : Given) → g ≡ v → CountsGrow r r′
       by (machine.number k) e =

@@ -12,10 +12,12 @@ use lib.ListN.{length, take, drop, getD}
 use Rattle.termfile.specs.Nodes.{Node}
 use Rattle.termfile.specs.Output.{overlay}
 use Rattle.termfile.proofs.Overlay.{overlay-drop}
-use Rattle.tally.specs.Numbers.{number}
+use Rattle.tally.specs.Numbers as tally
 use Rattle.machine.specs.declared.Machine.{Machine}
+use Rattle.machine.specs.Program.{Program}
+use Rattle.machine.specs.Steps.{Kind}
 use Rattle.machine.specs.Run.{Stores}
-use Rattle.machine.specs.Answer.{Given, Outcome, normal, spent, refused, Answer, number-alone, report, answer, written}
+use Rattle.machine.specs.Answer.{Given, number, program, programRun, Outcome, normal, spent, refused, Answer, number-alone, report, reportOf, answer, written}
 use Rattle.machine.specs.Demands.{IsNormal, is-normal, Meets, bytes-refused, program-run}
 use Rattle.machine.specs.Raising as raising
 use Rattle.machine.proofs.Outcomes.{written-count}
@@ -23,9 +25,9 @@ use Rattle.evaluator.specs.Promise.{storesIn, Called}
 use Rattle.evaluator.specs.declared.Answer as enum
 use Rattle.embed.specs.Embedding.{outcomeStatus, statusOf, refusalOf, numbersOf, EmbeddedOn, EmbeddedBy, on-machine, no-machine, namedBy}
 use Rattle.embed.specs.declared.Named.{Named}
-use Rattle.again.specs.Embedded.{EmbeddedCall, IsEmbeddedCall, IsEmbeddedFileCall, numbersReported, EmbeddedAgain, MayReturnElse, was-spent, was-refused, EmbeddedMore, TwoEmbeddedCalls}
-use Rattle.again.proofs.Told.{runRefusal}
-use Rattle.again.proofs.Again.{limits-grow, longer-store, overlay-fronts, writes-again}
+use Rattle.again.specs.Embedded.{EmbeddedCall, IsEmbeddedCall, IsEmbeddedFileCall, numbersReported, EmbeddedAgain, MayReturnElse, was-spent, was-refused, EmbeddedMore, NumbersGrow, TwoEmbeddedCalls}
+use Rattle.again.proofs.Told.{runRefusalOf}
+use Rattle.again.proofs.Again.{limits-grow, steps-grow, longer-store, overlay-fronts, writes-again}
 
 -- of an answer: as many numbers are told as its status says, and as many nodes as they say
 report-count : (o : Outcome) {A : Type 0} (x y : A) → cond (eqb (outcomeStatus o) 3) x y ≡ y
@@ -61,7 +63,7 @@ status-alone (report q) e = absurd (go (q .outcome) e)
     go spent e = omega (arith, e)
     go (refused k) e = omega (arith, e)
 
-number-of : {st st′ : Stores} {k : ℕ} → raising.Lengthened st st′ k → number (runRefusal k) ≡ k
+number-of : {st st′ : Stores} {k : ℕ} → raising.Lengthened st st′ k → tally.number (runRefusalOf k) ≡ k
 number-of (raising.Lengthened.cells l) = refl
 number-of (raising.Lengthened.nodes l) = refl
 number-of (raising.Lengthened.names l) = refl
@@ -73,8 +75,8 @@ module _ (first second : EmbeddedCall) where
       → first .status ≡ statusOf a → first .report-after ≡ overlay (numbersOf a) (first .report-before) → MayReturnElse first second
   change-told _ (raising.was-spent q e l) i r = was-spent (i ∙ ap outcomeStatus e) l
   change-told _ (raising.was-refused q k e l) i r =
-      was-refused (runRefusal k) (i ∙ ap outcomeStatus e) (ap (λ v. getD v 0 0) r ∙ ap refusalOf e ∙ sym (number-of l))
-      (longer-store (first .before) (second .before) l (runRefusal k) (number-of l))
+      was-refused (runRefusalOf k) (i ∙ ap outcomeStatus e) (ap (λ v. getD v 0 0) r ∙ ap refusalOf e ∙ sym (number-of l))
+      (longer-store (first .before) (second .before) l (runRefusalOf k) (number-of l))
 
 -- a call that is made, as its report array is long enough
 record Made (M : Machine) (g : Given) (c : EmbeddedCall) : Type 0 where
@@ -123,6 +125,28 @@ module _ {M : Machine} {g : Given} {first second : EmbeddedCall} (a : Made M g f
           ∙ ap (λ r. cond (eqb (statusOf (defined first)) 3) 0 (getD r 1 0)) (a .report-is)
           ∙ nodes-count (subst (λ v. Meets M g (first .budget) (storesIn (first .before)) v (nodes first)) (a .called .answer-is) (a .called .meets)) (first .report-before)
 
+  -- what the report array of a run's call holds, by the program that is given
+  report-of : {c : EmbeddedCall} → Made M g c → (P : Program) → g ≡ program P
+      → c .report-after ≡ overlay (numbersOf (report (reportOf M P (storesIn (c .before)) (programRun M P (c .budget) (storesIn (c .before)))))) (c .report-before)
+  report-of {c} h P e = h .report-is ∙ ap (λ v. overlay (numbersOf (answer M v (c .budget) (storesIn (c .before)))) (c .report-before)) e
+
+  numbers-grow : raising.Raised (first .budget) (second .budget) (storesIn (first .before)) (storesIn (second .before)) → first .status ≤ 2 → NumbersGrow first second
+  numbers-grow raised n = by g refl
+    where
+      by : (v : Given) → g ≡ v → NumbersGrow first second
+      by (number k) e = absurd (omega (arith, n, a .status-is ∙ ap (λ v. statusOf (answer M v (first .budget) (storesIn (first .before)))) e))
+      by (program P) e =
+          let t = report-of a P e in
+          let t′ = report-of b P e in
+          let more = steps-grow M P _ _ _ _ (a .called .extends P e) raised in
+          record {
+            beta = omega (arith, ap (λ v. getD v 2 0) t, ap (λ v. getD v 2 0) t′, more Kind.beta);
+            subst = omega (arith, ap (λ v. getD v 3 0) t, ap (λ v. getD v 3 0) t′, more Kind.subst);
+            enter = omega (arith, ap (λ v. getD v 4 0) t, ap (λ v. getD v 4 0) t′, more Kind.enter);
+            leave-fun = omega (arith, ap (λ v. getD v 5 0) t, ap (λ v. getD v 5 0) t′, more Kind.leave-fun);
+            leave-inert = omega (arith, ap (λ v. getD v 6 0) t, ap (λ v. getD v 6 0) t′, more Kind.leave-inert);
+          }
+
 grown : {first second : EmbeddedCall} → EmbeddedMore first second
     → raising.Raised (first .budget) (second .budget) (storesIn (first .before)) (storesIn (second .before))
 grown {first} {second} h = limits-grow (first .budget) (second .budget) (first .before) (second .before) (h .budget) (h .stores)
@@ -145,6 +169,7 @@ two {g} {first} {second} _ (on-machine M e) (on-machine _ i) =
           λ h n.
           let a = status-made e n in
           ⊎-map (again a (made i (h .report))) (λ w. change-told first second _ w (a .status-is) (a .report-is)) (a .called .stays .changes _ _ _ _ (grown h));
+      counts-grow = λ h n n′. numbers-grow (status-made e (omega (arith, n))) (status-made i (omega (arith, n′))) (grown h) n;
       bytes-refused =
           λ r n.
           let a = status-made e (omega (arith, n)) in
@@ -156,6 +181,7 @@ two _ (no-machine e) (no-machine i) =
       normal-again = λ h n. absurd (omega (arith, n, e .status-five));
       one-normal = λ n n′. absurd (omega (arith, n, e .status-five));
       changes = λ h n. absurd (omega (arith, n, e .status-five));
+      counts-grow = λ h n n′. absurd (omega (arith, n, e .status-five));
       bytes-refused = λ r n. absurd (omega (arith, n, e .status-five));
     }
 

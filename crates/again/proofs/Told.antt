@@ -1,5 +1,5 @@
--- Answers that are told alike are the same, where both blame the same bytes. The idea: each number leads back to its refusal, and what a report
--- tells leads back to it.
+-- Answers for one prelude and one file that are told alike are the same. The idea: each number leads back to its refusal, what a report tells
+-- leads back to it, and file and prelude are never both blamed.
 -- Assumes nothing.
 use Prim.Native.Nat.{ℕ, _-_}
 use mathlib.Core.Path.{_≡_, refl, sym, ap, _∙_}
@@ -27,11 +27,11 @@ use Rattle.evaluator.specs.declared.Answer.{Answer}
 use Rattle.evaluator.specs.declared.Answer.the-variants.{FileRefused, PreludeRefused, Ran}
 
 -- the refusal of a number
-abbrev fileRefusal : ℕ → file-refusals.Refusal
-fileRefusal k =
+abbrev fileRefusalOf : ℕ → file-refusals.Refusal
+fileRefusalOf k =
     getD (files.Short ∷ files.Limits ∷ files.Length ∷ files.Tag ∷ files.Shape ∷ files.Binder ∷ files.Variable ∷ []) (k - 1) files.Short
 
-file-refusal : (k : file-refusals.Refusal) → fileRefusal (file.number k) ≡ k
+file-refusal : (k : file-refusals.Refusal) → fileRefusalOf (file.number k) ≡ k
 file-refusal files.Short = refl
 file-refusal files.Limits = refl
 file-refusal files.Length = refl
@@ -40,11 +40,11 @@ file-refusal files.Shape = refl
 file-refusal files.Binder = refl
 file-refusal files.Variable = refl
 
-abbrev preludeRefusal : ℕ → prelude-refusals.Refusal
-preludeRefusal k =
-    cond (leb k 7) (preludes.Definition (fileRefusal k)) (getD (preludes.Cut ∷ preludes.NotAbstraction ∷ preludes.Place ∷ []) (k - 17) preludes.Cut)
+abbrev preludeRefusalOf : ℕ → prelude-refusals.Refusal
+preludeRefusalOf k =
+    cond (leb k 7) (preludes.Definition (fileRefusalOf k)) (getD (preludes.Cut ∷ preludes.NotAbstraction ∷ preludes.Place ∷ []) (k - 17) preludes.Cut)
 
-prelude-refusal : (k : prelude-refusals.Refusal) → preludeRefusal (prelude.number k) ≡ k
+prelude-refusal : (k : prelude-refusals.Refusal) → preludeRefusalOf (prelude.number k) ≡ k
 prelude-refusal preludes.Cut = refl
 prelude-refusal (preludes.Definition files.Short) = refl
 prelude-refusal (preludes.Definition files.Limits) = refl
@@ -56,10 +56,10 @@ prelude-refusal (preludes.Definition files.Variable) = refl
 prelude-refusal preludes.NotAbstraction = refl
 prelude-refusal preludes.Place = refl
 
-abbrev pub runRefusal : ℕ → Refusal
-runRefusal k = getD (Cells ∷ Nodes ∷ Names ∷ Renumber ∷ Output ∷ []) (k - 8) Cells
+abbrev pub runRefusalOf : ℕ → Refusal
+runRefusalOf k = getD (Cells ∷ Nodes ∷ Names ∷ Renumber ∷ Output ∷ []) (k - 8) Cells
 
-pub run-refusal : (k : Refusal) → runRefusal (number k) ≡ k
+pub run-refusal : (k : Refusal) → runRefusalOf (number k) ≡ k
 run-refusal Cells = refl
 run-refusal Nodes = refl
 run-refusal Names = refl
@@ -70,7 +70,7 @@ run-refusal Output = refl
 abbrev pub outcomeFrom : machine.Outcome → Outcome
 outcomeFrom (machine.normal n) = Normal n
 outcomeFrom machine.spent = Spent
-outcomeFrom (machine.refused k) = Refused (runRefusal k)
+outcomeFrom (machine.refused k) = Refused (runRefusalOf k)
 
 pub outcome-from : (o : Outcome) → outcomeFrom (toldOutcome o) ≡ o
 outcome-from (Normal n) = refl
@@ -120,13 +120,13 @@ not-alone e = let z : _≡_ {A = ℕ} 0 1 = cc in omega arith
 module _ (p s : List ℕ) where
   pub told-same : (q q′ : Answer) → Blames p s q → Blames p s q′ → told q ≡ told q′ → q ≡ q′
   told-same (FileRefused k) (FileRefused j) b b′ e =
-      ap FileRefused (sym (file-refusal k) ∙ ap fileRefusal (Option·some-injective (file.number k) (file.number j) (sym b ∙ b′)) ∙ file-refusal j)
+      ap FileRefused (sym (file-refusal k) ∙ ap fileRefusalOf (Option·some-injective (file.number k) (file.number j) (sym b ∙ b′)) ∙ file-refusal j)
   told-same (FileRefused k) (PreludeRefused j) b b′ e = absurd (Option·none-ne-some (file.number k) (sym (b′ .0) ∙ b))
   told-same (FileRefused k) (Ran r) b b′ e = absurd (not-alone e)
   told-same (PreludeRefused k) (FileRefused j) b b′ e = absurd (Option·none-ne-some (file.number j) (sym (b .0) ∙ b′))
   told-same (PreludeRefused k) (PreludeRefused j) b b′ e =
       ap PreludeRefused
-      (sym (prelude-refusal k) ∙ ap preludeRefusal (Option·some-injective (prelude.number k) (prelude.number j) (sym (b .1) ∙ b′ .1)) ∙ prelude-refusal j)
+      (sym (prelude-refusal k) ∙ ap preludeRefusalOf (Option·some-injective (prelude.number k) (prelude.number j) (sym (b .1) ∙ b′ .1)) ∙ prelude-refusal j)
   told-same (PreludeRefused k) (Ran r) b b′ e = absurd (not-alone e)
   told-same (Ran r) (FileRefused j) b b′ e = absurd (not-alone (sym e))
   told-same (Ran r) (PreludeRefused j) b b′ e = absurd (not-alone (sym e))

@@ -38,7 +38,8 @@ pub record IsFileCall (M : Machine) (s : List ℕ) (c : Call) : Type 0 where
   pub refused : BlamesFile s (c .answer)
   pub called : Called M (fileGiven s) (c .budget) (c .answer) (c .before) (c .after)
 
--- the length, as it is counted, of the store that a refusal is about: the shortest of its arrays, up to the store's limit
+-- the length, as it is counted, of the store that a refusal is about: the shortest of its arrays, up to the store's
+-- limit, which the renumber store does not have
 abbrev pub storeFor : Refusal → Memory → ℕ
 storeFor Cells m = storesIn m .cells
 storeFor Nodes m = storesIn m .nodes
@@ -68,15 +69,15 @@ pub record GivenMore (first second : Call) : Type 0 where
   pub stores : StoresLonger (first .before) (second .before)
 
 -- the nodes that a call writes, as its answer tells: those of the normal form, or none
-abbrev pub nodesIn : Outcome → ℕ
-nodesIn (Normal n) = n
-nodesIn Spent = 0
-nodesIn (Refused k) = 0
+abbrev pub nodesOf : Outcome → ℕ
+nodesOf (Normal n) = n
+nodesOf Spent = 0
+nodesOf (Refused k) = 0
 
 abbrev pub nodesTold : Answer → ℕ
 nodesTold (FileRefused k) = 0
 nodesTold (PreludeRefused k) = 0
-nodesTold (Ran r) = nodesIn (r .outcome)
+nodesTold (Ran r) = nodesOf (r .outcome)
 
 -- the second call writes what the first writes: the same nodes, so many of them, at the front of the output arrays, and nothing behind them. The
 -- three memories are what the arrays hold after the first call, and before and after the second
@@ -117,7 +118,7 @@ pub record TwoCalls (first second : Call) : Type 0 where
   pub one-normal : IsNormalForm (first .answer) → IsNormalForm (second .answer) → CalledAgain first second
   -- every other answer is given again too, but for those that may change
   pub changes : GivenMore first second → CalledAgain first second ⊎ MayAnswerElse first second (first .answer)
-  -- the second run begins with all steps of the first, however each ends
+  -- where both have a report, no count of steps is smaller in the second: its run begins with all steps of the first
   pub counts-grow : GivenMore first second → (r r′ : Report) → first .answer ≡ Ran r → second .answer ≡ Ran r′ → CountsGrow r r′
   -- a refusal of the file or of the prelude never changes, whatever the budgets and arrays
   pub file-refused : (k : file.Refusal) → first .answer ≡ FileRefused k → CalledAgain first second

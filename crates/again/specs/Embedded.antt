@@ -1,5 +1,5 @@
--- The same of two calls of `glow_evaluate_with`, or of `glow_evaluate`, by programs in other languages, with the number of one machine and
--- the same bytes: in the statuses that they return and in the numbers of the report array. It follows from what each call's contract
+-- What specs/Again says, of two calls of `glow_evaluate_with`, or of `glow_evaluate`, by programs in other languages, with the number of one
+-- machine and the same bytes: in the statuses that they return and in the numbers of the report array. It follows from what each call's contract
 -- promises (embed/specs/Embedding); proofs/Embedded.antt has the proof.
 -- Letters: k is the number of a machine, p the prelude, s the term file, c a call.
 use Prim.Native.Nat.{ℕ, _≤_, _<_}
@@ -61,12 +61,22 @@ pub record EmbeddedMore (first second : EmbeddedCall) : Type 0 where
   pub stores : StoresLonger (first .before) (second .before)
   pub report : 12 ≤ length (second .report-before)
 
+-- no count of steps, elements 2 to 6 of the report array, is smaller in the second
+pub record NumbersGrow (first second : EmbeddedCall) : Type 0 where
+  pub beta : getD (first .report-after) 2 0 ≤ getD (second .report-after) 2 0
+  pub subst : getD (first .report-after) 3 0 ≤ getD (second .report-after) 3 0
+  pub enter : getD (first .report-after) 4 0 ≤ getD (second .report-after) 4 0
+  pub leave-fun : getD (first .report-after) 5 0 ≤ getD (second .report-after) 5 0
+  pub leave-inert : getD (first .report-after) 6 0 ≤ getD (second .report-after) 6 0
+
 pub record TwoEmbeddedCalls (first second : EmbeddedCall) : Type 0 where
-  -- a normal form, status 0
+  -- a normal form, status 0, is returned again
   pub normal-again : EmbeddedMore first second → first .status ≡ 0 → EmbeddedAgain first second
   -- two normal forms are the same, whatever the budgets and arrays
   pub one-normal : first .status ≡ 0 → second .status ≡ 0 → EmbeddedAgain first second
-  -- a normal form, spent or a refusal, status 0 to 3
+  -- whatever is returned with a status from 0 to 3 is returned again, but for what may change
   pub changes : EmbeddedMore first second → first .status ≤ 3 → EmbeddedAgain first second ⊎ MayReturnElse first second
-  -- a refusal of the file or of the prelude, status 3, whatever the budgets and the stores' arrays
+  -- where both calls return the status of a run, 0 to 2, no count of steps is smaller in the second: its run begins with all steps of the first
+  pub counts-grow : EmbeddedMore first second → first .status ≤ 2 → second .status ≤ 2 → NumbersGrow first second
+  -- a refusal of the file or of the prelude, status 3, is returned again, whatever the budgets and the stores' arrays
   pub bytes-refused : 12 ≤ length (second .report-before) → first .status ≡ 3 → EmbeddedAgain first second

@@ -19,7 +19,7 @@ fn numbers(c: &Counts, g: &Figures) -> [u64; 8] {
 }
 
 /// Whether the second run has made the step that the first could not, or else is refused there by what is asked for next. A loading refusal
-/// has figures 0.
+/// has figures 0. Where the result was refused, steps and figures are the same.
 fn further(first: &Run, second: &Run) -> bool {
     let (c, d) = (first.counts, second.counts);
     let loading = first.figures == Figures::default();

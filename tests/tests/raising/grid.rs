@@ -31,7 +31,8 @@ impl Seen {
     pub fn grid(&mut self, room: &mut Room, program: &Program, axes: &Axes, answers: &mut Answers) {
         let mut strides = [1; 6];
         for k in 1..6 { strides[k] = strides[k - 1] * axes[k - 1].len(); }
-        let mut numbers: Vec<u16> = Vec::with_capacity(strides[5] * axes[5].len());
+        let all = strides[5] * axes[5].len();
+        let mut numbers: Vec<u16> = Vec::with_capacity(all);
         // where in each axis the limits are
         let mut places = [0; 6];
         let limits_at = |places: [usize; 6]| Limits::of([0, 1, 2, 3, 4, 5].map(|k| axes[k][places[k]]));
@@ -53,7 +54,7 @@ impl Seen {
             places[..next].fill(0);
             places[next] += 1;
         }
-        assert_eq!(numbers.len(), numbers.capacity(), "all limits of the grid");
+        assert_eq!(numbers.len(), all, "all limits of the grid");
     }
 }
 

@@ -61,7 +61,7 @@ fn with_definitions(f: usize, definitions: &[usize], most: usize) -> Vec<Program
     preludes.iter().flat_map(|p| terms.iter().map(|t| Program::from(p, t))).collect()
 }
 
-/// Longer programs: those of paper 01; (\x. x x y) I; I I y; and with definitions a name applied, a name passed and applied, a name renamed to and
+/// Longer programs: cases c, d, f and j of paper 01; (\x. x x y) I; I I y; and with definitions a name applied, a name passed and applied, a name renamed to and
 /// applied, and omega.
 fn chosen() -> Vec<Program> {
     let x = 9_000_000;

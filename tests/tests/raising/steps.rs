@@ -1,4 +1,4 @@
-//! The list of steps itself, of the second implementation, with which the library is compared in every field: with each limits it is a beginning
+//! The list of steps itself, of the second implementation, with which the library is compared in every field: with any smaller limits it is a beginning
 //! of the list with the largest, and its steps of each kind are those reported.
 use crate::{chosen, need, terms, with_definitions, Limits, Program};
 use glow_tests::case::{print_notes, Case};
@@ -45,7 +45,8 @@ impl Seen {
         }
     }
 
-    /// At every budget to two past what the run with the budget `most` needs, and with each store at lengths of which all are near 0 and near the need.
+    /// At every budget to two past what the run with the budget `most` needs, and with each store at all lengths near 0 and near the need, and at every
+    /// seventh between.
     fn program(&mut self, rules: Rules, program: &Program, most: u32, ample: Lengths) {
         let (longest, full) = list(rules, program, &Limits { budget: most, lengths: ample });
         let needed = need(full.run());
