@@ -169,7 +169,7 @@ two {g} {first} {second} _ (on-machine M e) (on-machine _ i) =
           λ h n.
           let a = status-made e n in
           ⊎-map (again a (made i (h .report))) (λ w. change-told first second _ w (a .status-is) (a .report-is)) (a .called .stays .changes _ _ _ _ (grown h));
-      counts-grow = λ h n n′. numbers-grow (status-made e (omega (arith, n))) (status-made i (omega (arith, n′))) (grown h) n;
+      counts-grow = λ h n. numbers-grow (status-made e (omega (arith, n))) (made i (h .report)) (grown h) n;
       bytes-refused =
           λ r n.
           let a = status-made e (omega (arith, n)) in
@@ -181,7 +181,7 @@ two _ (no-machine e) (no-machine i) =
       normal-again = λ h n. absurd (omega (arith, n, e .status-five));
       one-normal = λ n n′. absurd (omega (arith, n, e .status-five));
       changes = λ h n. absurd (omega (arith, n, e .status-five));
-      counts-grow = λ h n n′. absurd (omega (arith, n, e .status-five));
+      counts-grow = λ h n. absurd (omega (arith, n, e .status-five));
       bytes-refused = λ r n. absurd (omega (arith, n, e .status-five));
     }
 

@@ -76,7 +76,8 @@ pub record TwoEmbeddedCalls (first second : EmbeddedCall) : Type 0 where
   pub one-normal : first .status ≡ 0 → second .status ≡ 0 → EmbeddedAgain first second
   -- whatever is returned with a status from 0 to 3 is returned again, but for what may change
   pub changes : EmbeddedMore first second → first .status ≤ 3 → EmbeddedAgain first second ⊎ MayReturnElse first second
-  -- where both calls return the status of a run, 0 to 2, no count of steps is smaller in the second: its run begins with all steps of the first
-  pub counts-grow : EmbeddedMore first second → first .status ≤ 2 → second .status ≤ 2 → NumbersGrow first second
+  -- where the first call returns the status of a run, 0 to 2, no count of steps is smaller in the second: its run begins with all steps of the
+  -- first
+  pub counts-grow : EmbeddedMore first second → first .status ≤ 2 → NumbersGrow first second
   -- a refusal of the file or of the prelude, status 3, is returned again, whatever the budgets and the stores' arrays
   pub bytes-refused : 12 ≤ length (second .report-before) → first .status ≡ 3 → EmbeddedAgain first second

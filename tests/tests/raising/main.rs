@@ -1,7 +1,7 @@
 //! Larger budgets and longer stores, on both machines (02, request 7). A normal answer is given again, whole. Any run's steps are the first of
 //! those with larger limits. And an answer changes only where that which ended the run is larger now: the budget where it was spent, and
-//! else the one store whose refusal it was. Answers of the library are compared with each other, and each with the beginning of as many
-//! steps of the second implementation's longest run.
+//! else the one store whose refusal it was. Answers of the library are compared with each other, and each answer of a run with
+//! the beginning of as many steps of the second implementation's longest run.
 #[cfg(feature = "library")]
 mod beyond;
 #[cfg(feature = "library")]

@@ -45,8 +45,8 @@ impl Seen {
         }
     }
 
-    /// At every budget to two past what the run with the budget `most` needs, and with each store at all lengths near 0 and near the need, and at every
-    /// seventh between.
+    /// At every budget to two past what the run with the budget `most` needs, but not past `most`, and with each store at all lengths near 0 and near
+    /// the need, and at every seventh between.
     fn program(&mut self, rules: Rules, program: &Program, most: u32, ample: Lengths) {
         let (longest, full) = list(rules, program, &Limits { budget: most, lengths: ample });
         let needed = need(full.run());
