@@ -11,9 +11,10 @@ use borrow.Author.Tests.{leb-true, eqb-true}
 use Rattle.termfile.specs.Code.{Code, weigh, only, size, numbered, scoped}
 use Rattle.termfile.specs.Nodes.{write}
 use Rattle.termfile.specs.File.{maxFree, maxNodes, freeNames, nodeCount, tags, nodes, codeOf, codeFrom, fileCode, known, holds, unless, longEnough, inLimits, exactLength, tagsKnown, oneTerm, bindersInPlace, variablesInScope, refusal, count}
+use Rattle.termfile.specs.Passes.{Framed}
 use Rattle.termfile.proofs.Reading.{read-is, length-write, count-write, weigh-only-le}
 use Rattle.termfile.proofs.Bytes.{tags-nodes, length-nodes}
-use Rattle.termfile.proofs.Refusals.{unless-none, framed-refusal}
+use Rattle.termfile.proofs.Refusals.{unless-none, headed-refusal}
 
 -- what the tests say of a file that passes them all
 pub record Accepted (s : List ℕ) : Type 0 where
@@ -64,8 +65,9 @@ module _ {s : List ℕ} (a : Accepted s) where
   -- a file that passes them is not refused
   pub accepted-back : refusal s ≡ none
   accepted-back =
+      let framed : Framed s (nodeCount s) = record { count = refl; long = a .exact; least = a .nodes-pos; most = a .nodes-limit } in
       rw (
-        framed-refusal (record { count = refl; long = a .exact; least = a .nodes-pos; most = a .nodes-limit }) refl (a .free-limit),
+        headed-refusal (record { framed = framed; names = refl; few = a .free-limit }),
         a .known-tags,
         a .is-code,
         a .in-order,

@@ -64,7 +64,7 @@ module _ {s : List ℕ} {n : ℕ} (framed : Framed s n) where
   length-arguments : length (arguments s) ≡ n
   length-arguments = bytes.length-arguments s exact ∙ sym (framed .count)
 
-  length-nodes : length (nodes s) ≡ n
+  pub length-nodes : length (nodes s) ≡ n
   length-nodes = bytes.length-nodes s exact ∙ sym (framed .count)
 
   -- the tags from i on, and the nodes from i on

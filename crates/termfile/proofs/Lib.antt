@@ -13,3 +13,6 @@ pub mod Frame
 pub mod Sizes
 pub mod Order
 pub mod Visibility
+pub mod Forward
+pub mod Turn
+pub mod Outcome

@@ -10,7 +10,7 @@ use native.Mathlib.Omega.{arith}
 use lib.Dec.{eqb, leb}
 use lib.ListN.{length, drop, length-append}
 use borrow.Author.Tests.{eqb-true, eq-eqb}
-use Rattle.termfile.specs.Code.{Code, var, abs, app, weigh, only, size}
+use Rattle.termfile.specs.Code.{Code, var, abs, app, weigh, only, size, variables, abstractions, applications}
 use Rattle.termfile.specs.Nodes.{Node, write, readNode, andThen, forest, single, read}
 use Rattle.termfile.specs.File.{known, count}
 
@@ -89,6 +89,17 @@ pub size-pos : (c : Code) → 0 < size c
 size-pos (var x) = omega arith
 size-pos (abs x c) = omega arith
 size-pos (app c d) = omega arith
+
+-- the nodes of a code are its variables, abstractions and applications, and one more is a variable than an application
+pub size-counts : (c : Code) → size c ≡ variables c + abstractions c + applications c
+size-counts (var x) = refl
+size-counts (abs x c) = omega (arith, size-counts c)
+size-counts (app c d) = omega (arith, size-counts c, size-counts d)
+
+pub variables-applications : (c : Code) → variables c ≡ applications c + 1
+variables-applications (var x) = refl
+variables-applications (abs x c) = omega (arith, variables-applications c)
+variables-applications (app c d) = omega (arith, variables-applications c, variables-applications d)
 
 -- a code has no more nodes of one tag than nodes
 only-le : (k t : ℕ) → only k t ≤ 1

@@ -11,7 +11,7 @@ use lib.ListN.{length}
 use borrow.Author.Tests.{le-leb, lt-leb, eq-eqb, ne-eqb}
 use Rattle.termfile.specs.Code.{Code, numbered, scoped}
 use Rattle.termfile.specs.File.{maxFree, maxNodes, freeNames, nodeCount, codeOf, holds, unless, longEnough, inLimits, exactLength, tagsKnown, refusal}
-use Rattle.termfile.specs.Passes.{Framed}
+use Rattle.termfile.specs.Passes.{Headed}
 
 -- a test that does not refuse holds, and nor does a later one refuse
 pub unless-none : (q : Bool) (k : ℕ) (rest : Option ℕ) → unless q k rest ≡ none → (q ≡ true) × (rest ≡ none)
@@ -65,14 +65,15 @@ module _ (s : List ℕ) where
 abbrev pub nodeTests : ℕ → Option Code → Option ℕ
 nodeTests f o = unless (holds (λ c. true) o) 5 (unless (holds (numbered f) o) 6 (unless (holds (scoped f []) o) 7 none))
 
--- a file that has passed the tests 1 to 3, where the count of free names has been read into f
-pub framed-refusal : {s : List ℕ} {n f : ℕ} → Framed s n → f ≡ freeNames s → f ≤ maxFree → refusal s ≡ unless (tagsKnown s) 4 (nodeTests f (codeOf s))
+-- what is left of the tests for a file that has passed the tests 1 to 3, where its two counts have been read
+pub headed-refusal : {s : List ℕ} {n f : ℕ} → Headed s n f → refusal s ≡ unless (tagsKnown s) 4 (nodeTests f (codeOf s))
 unfolding refusal
-framed-refusal {s} framed names few =
+headed-refusal {s} h =
+    let framed = h .framed in
     let count = framed .count in
     rw (
       long-enough s (omega (arith, framed .long)),
       in-limits s (omega arith) (omega (arith, framed .least)) (omega (arith, framed .most)),
       exact-length s (omega (arith, framed .long)),
-      names,
+      h .names,
     )

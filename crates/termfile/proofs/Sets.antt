@@ -1,12 +1,17 @@
--- Stores in a row: one list behind another, and a store before them.
+-- Stores: one seen from its place on, and stores in a row, one list behind another and a store before them.
 -- Assumes nothing.
 use Prim.Native.Nat.{ℕ, suc, _+_, _≤_, _<_}
-use mathlib.Core.Path.{_≡_, refl, ap, _∙_}
+use mathlib.Core.Path.{_≡_, refl, ap, ap₂, _∙_}
 use mathlib.Core.List.{List, [], _∷_, _++_}
 use native.Mathlib.Omega.{arith}
-use lib.ListN.{length, set, drop}
-use lib.Seq.{sets, sets-eq, set-comm}
+use lib.ListN.{length, set, drop, length-set}
+use lib.Seq.{sets, sets-eq, set-comm, drop-cons, getD-set-same, drop-set-lt}
 use Rattle.termfile.specs.Output.{overlay}
+
+-- a list from the place of a store on
+pub drop-set : (l : List ℕ) (j k : ℕ) → j < length l → drop j (set l j k) ≡ k ∷ drop (suc j) l
+drop-set l j k h =
+    drop-cons (set l j k) j 0 (simp length-set h) ∙ ap₂ _∷_ (getD-set-same l j k 0 h) (drop-set-lt (suc j) l j k (omega arith))
 
 -- stores of one list and then of another behind it
 pub sets-append : (ts us : List ℕ) (at : ℕ) (l : List ℕ) → sets (sets l at ts) (at + length ts) us ≡ sets l at (ts ++ us)

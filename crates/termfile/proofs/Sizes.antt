@@ -5,20 +5,21 @@
 use Prim.Native.Nat.{ℕ, zero, suc, _+_, _-_, _≤_, _<_}
 use mathlib.Core.Path.{_≡_, refl, sym, ap, ap₂, _∙_}
 use mathlib.Core.Bool.{Bool, true, false, cond}
-use mathlib.Core.List.{List, [], _∷_, append-assoc, append-nil}
-use mathlib.Core.Option.{Option, none, some, Option·none-ne-some, Option·some-injective}
+use mathlib.Core.List.{List, [], _∷_, append-assoc}
+use mathlib.Core.Option.{Option, none, some}
 use native.Mathlib.Omega.{arith}
 use lib.Dec.{eqb}
-use lib.ListN.{length, getD, take, drop, set, length-append, length-drop, length-set}
-use lib.Seq.{getD-append-add, drop-cons, getD-set-same, drop-set-lt, length-take-le, getD-take}
+use lib.ListN.{length, getD, take, drop, set, length-append, length-drop}
+use lib.Seq.{getD-append-add, length-take-le, getD-take}
 use borrow.Author.Tests.{eq-eqb, ne-eqb}
 use Rattle.termfile.specs.Code.{Code, var, abs, app, size}
 use Rattle.termfile.specs.Nodes.{Node, readNode, andThen, forest, single, read}
 use Rattle.termfile.specs.File.{holds, tags, arguments, nodes, codeOf}
-use Rattle.termfile.specs.Passes.{Framed, Sizes, sizesIn, sizesOf, joined}
+use Rattle.termfile.specs.Passes.{Framed, sizesIn, sizesOf, joined}
 use Rattle.termfile.specs.declared.shape.Joined.the-variants.{Size, Broken}
 use Rattle.termfile.proofs.Frame.{nodes-step, nodes-end}
 use Rattle.termfile.proofs.Reading.{forest-none, size-pos}
+use Rattle.termfile.proofs.Sets.{drop-set}
 
 pub length-sizesIn : (c : Code) → length (sizesIn c) ≡ size c
 length-sizesIn (var x) = refl
@@ -128,16 +129,10 @@ joined-none (suc (suc (suc t))) m cs e = refl
 
 -- a store in front of a part
 part-set : (l : List ℕ) (j n k : ℕ) → j < n → n ≤ length l → take (n - j) (drop j (set l j k)) ≡ k ∷ take (n - suc j) (drop (suc j) l)
-part-set l j n k h h′ =
-    ap₂ (λ (a : ℕ) (b : List ℕ). take a b) longer
-    (drop-cons (set l j k) j 0 within ∙ ap₂ (λ (a : ℕ) (b : List ℕ). a ∷ b) (getD-set-same l j k 0 (omega arith))
-    (drop-set-lt (suc j) l j k (omega arith)))
+part-set l j n k h h′ = ap₂ (λ (a : ℕ) (b : List ℕ). take a b) longer (drop-set l j k (omega arith))
   where
     longer : n - j ≡ suc (n - suc j)
     longer = omega arith
-
-    within : j < length (set l j k)
-    within = simp length-set (omega arith)
 
 -- the first code's size is at most the number of nodes
 pub reads-first : {ns : List Node} {zs : List ℕ} → Reads ns zs → getD zs 0 0 ≤ length zs
@@ -192,15 +187,6 @@ reads-single {ns} {zs} {n} r e h = rw (r .whole, r .sized) (go (r .codes) (rw (r
     go (c ∷ []) p = eq-eqb (size c) n (omega (arith, length-sizesOf c []))
     go (c ∷ d ∷ cs) p = ne-eqb (size c) n (λ q. omega (arith, length-sizesOf c (d ∷ cs), length-sizesOf d cs, size-pos d))
 
--- and then the sizes are those of its subterms
-pub reads-sizes : {ns : List Node} {zs : List ℕ} → Reads ns zs → (c : Code) → read ns ≡ some c → zs ≡ sizesIn c
-reads-sizes {ns} {zs} r c e = r .sized ∙ go (r .codes) (sym (ap single (r .whole)) ∙ e)
-  where
-    go : (cs : List Code) → single (some cs) ≡ some c → sizesOf cs ≡ sizesIn c
-    go [] p = absurd (Option·none-ne-some c p)
-    go (d ∷ []) p = append-nil (sizesIn d) ∙ ap sizesIn (Option·some-injective d c p)
-    go (d ∷ d′ ∷ ds) p = absurd (Option·none-ne-some c p)
-
 -- where the loop of `is_term` starts, behind the last node
 pub reads-start : {s : List ℕ} {n : ℕ} → Framed s n → (sizes : List ℕ) → Reads (drop n (nodes s)) (take (n - n) (drop n sizes))
 reads-start {s} {n} framed sizes = record { codes = []; whole = rw (nodes-end framed n (omega arith)); sized = ap (λ (k : ℕ). take k (drop n sizes)) nothing }
@@ -210,17 +196,17 @@ reads-start {s} {n} framed sizes = record { codes = []; whole = rw (nodes-end fr
 
 -- and where it ends: before the first node, or where a node does not join
 pub reads-all : {s : List ℕ} {n : ℕ} → Framed s n → (sizes : List ℕ) → n ≤ length sizes → (i : ℕ) → i ≤ 0
-    → Reads (drop i (nodes s)) (take (n - i) (drop i sizes)) → (eqb (getD sizes 0 0) n ≡ holds (λ c. true) (codeOf s)) × Sizes s n sizes
+    → Reads (drop i (nodes s)) (take (n - i) (drop i sizes)) → eqb (getD sizes 0 0) n ≡ holds (λ c. true) (codeOf s)
 reads-all {s} {n} framed sizes long zero h r =
-    let whole : Reads (nodes s) (take n sizes) = record { codes = r .codes; whole = r .whole; sized = ap (λ (k : ℕ). take k sizes) count ∙ r .sized } in (
-      ap (λ (k : ℕ). eqb k n) (sym (getD-take n sizes 0 0 (omega (arith, framed .least))))
-          ∙ reads-single whole (length-take-le n sizes long) (framed .least),
-      reads-sizes whole,
-    )
+    ap (λ (k : ℕ). eqb k n) (sym (getD-take n sizes 0 0 (omega (arith, framed .least))))
+    ∙ reads-single whole (length-take-le n sizes long) (framed .least)
   where
     count : n ≡ n - 0
     count = omega arith
+
+    whole : Reads (nodes s) (take n sizes)
+    whole = record { codes = r .codes; whole = r .whole; sized = ap (λ (k : ℕ). take k sizes) count ∙ r .sized }
 reads-all framed sizes long (suc i) h r = absurd (omega arith)
 
-pub reads-broken : (s : List ℕ) (n : ℕ) (sizes : List ℕ) → forest (nodes s) ≡ none → (false ≡ holds (λ c. true) (codeOf s)) × Sizes s n sizes
-reads-broken s n sizes e = (rw e, λ c q. absurd (Option·none-ne-some c (sym (ap single e) ∙ q)))
+pub reads-broken : (s : List ℕ) → forest (nodes s) ≡ none → false ≡ holds (λ c. true) (codeOf s)
+reads-broken s e = rw e

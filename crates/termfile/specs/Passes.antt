@@ -1,13 +1,16 @@
 -- What the check's private functions are held to, beyond the paper's definitions: where a file's parts lie, and the sizes of a code's subterms.
 -- Letters: s is a list of bytes, n its count of nodes, f that of free names, zs are sizes.
-use Prim.Native.Nat.{ℕ, _+_, _*_, _≤_}
+use Prim.Native.Nat.{ℕ, _+_, _-_, _*_, _/_, _≤_}
 use mathlib.Core.Path.{_≡_}
-use mathlib.Core.Bool.{true}
+use mathlib.Core.Bool.{cond, _&&_}
 use mathlib.Core.List.{List, [], _∷_, _++_}
 use mathlib.Core.Option.{Option, none, some}
-use lib.ListN.{length, take}
-use Rattle.termfile.specs.Code.{Code, var, abs, app, size}
-use Rattle.termfile.specs.File.{freeNames, nodeCount, maxFree, maxNodes, tagsKnown, codeOf}
+use lib.ListN.{length}
+use Rattle.termfile.specs.Code.{Code, var, abs, app, size, abstractions, numbered, scoped}
+use Rattle.termfile.specs.File.{freeNames, nodeCount, maxFree, maxNodes}
+use Rattle.termfile.specs.declared.Counts.{Counts}
+use Rattle.termfile.specs.declared.pass.Tested.{Tested}
+use Rattle.termfile.specs.declared.pass.Tested.the-variants.{Passed, Failed}
 use Rattle.termfile.specs.declared.shape.Joined.{Joined}
 use Rattle.termfile.specs.declared.shape.Joined.the-variants.{Size, Broken}
 
@@ -18,12 +21,21 @@ pub record Framed (s : List ℕ) (n : ℕ) : Type 0 where
   pub least : 1 ≤ n
   pub most : n ≤ maxNodes
 
--- a file that has passed the refusals 1 to 4, and f is its count of free names
-pub record Tagged (s : List ℕ) (n f : ℕ) : Type 0 where
+-- and f is its count of free names
+pub record Headed (s : List ℕ) (n f : ℕ) : Type 0 where
   pub framed : Framed s n
   pub names : f ≡ freeNames s
   pub few : f ≤ maxFree
-  pub known : tagsKnown s ≡ true
+
+-- whether the tests 4 to 7 find nothing to refuse in the code that the nodes stand for, if they stand for one; and if so, its abstractions
+abbrev pub tested : ℕ → Option Code → Tested
+tested f none = Failed
+tested f (some c) = cond (numbered f c && scoped f [] c) (Passed (abstractions c)) Failed
+
+-- the counts of a code of n nodes, of which l are abstractions
+abbrev pub countsFrom : ℕ → ℕ → ℕ → Counts
+countsFrom f n l =
+    record { free = f; nodes = n; abstractions = l; variables = (n - l + 1) / 2; applications = (n - l + 1) / 2 - 1 }
 
 -- the sizes of the subterms of a code, in prefix order: the whole first, and then those below it
 abbrev pub sizesBelow : Code → List ℕ
@@ -44,7 +56,3 @@ abbrev pub joined : Option (List Code) → Joined
 joined none = Broken
 joined (some []) = Broken
 joined (some (c ∷ cs)) = Size (size c)
-
--- zs has the size of the subterm that starts at each node of the file, where the file's nodes are a code
-abbrev pub Sizes : List ℕ → ℕ → List ℕ → Type 0
-Sizes s n zs = (c : Code) → codeOf s ≡ some c → take n zs ≡ sizesIn c

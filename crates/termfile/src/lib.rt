@@ -14,21 +14,23 @@
 //   7 Variable  a variable that is neither free nor bound by an abstraction around it
 mod binders;
 mod layout;
-mod scope;
+mod pass;
 mod shape;
 mod tags;
 
 ghost use mathlib.Core.Path.{_≡_};
-ghost use Prim.Native.Nat.{_≤_};
+ghost use Prim.Native.Nat.{_≤_, _<_};
 ghost use lib.ListN.{length};
+ghost use mathlib.Core.Option.{some};
 ghost use Rattle.termfile.specs.Answer.{answer, told, number};
-ghost use Rattle.termfile.specs.File.{word, freeNames, counts};
-ghost use Rattle.termfile.specs.Passes.{Framed, Tagged};
+ghost use Rattle.termfile.specs.File.{word, codeOf, refusal, maxNodes};
+ghost use Rattle.termfile.specs.Passes.{Headed, tested, countsFrom};
+ghost use Rattle.termfile.specs.declared.pass.Tested.the-variants.{Failed};
 use binders::in_order;
 use layout::word_at;
-use scope::in_scope;
+use pass::Tested;
+use pass::test_nodes;
 use shape::is_term;
-use tags::count_tag;
 use tags::tags_known;
 
 // Why a byte string is not a term file, in the order in which the tests are made.
@@ -119,50 +121,64 @@ pub fn check(file: &[u8]) -> Checked
     if file.len() != (4 + 3 * (n as u32)) as usize {
         return Checked::Refused(Refusal::Length);
     }
-    if !tags_known(file, n) {
-        return Checked::Refused(Refusal::Tag);
-    }
     if n <= SMALL {
-        let mut sizes = [0u16; SMALL];
+        let mut due = [0u16; SMALL];
         let mut ends = [0u16; SMALL];
-        return check_nodes(file, n, f, &mut sizes, &mut ends);
+        return check_nodes(file, n, f, &mut due, &mut ends);
     }
-    let mut sizes = [0u16; MAX_NODES];
+    let mut due = [0u16; MAX_NODES];
     let mut ends = [0u16; MAX_NODES];
-    check_nodes(file, n, f, &mut sizes, &mut ends)
+    check_nodes(file, n, f, &mut due, &mut ends)
 }
 
-// The answer for a file that has passed the first four tests, with f free names and n nodes.
-// `sizes` and `ends` are for its own use, whatever they hold.
-fn check_nodes(file: &[u8], n: usize, f: usize, sizes: &mut [u16], ends: &mut [u16]) -> Checked
-    requires { ⌜ Tagged (now file) n f ⌝ }
-    requires { ⌜ n ≤ length (now sizes) ⌝ }
+// The answer for a file that has passed the first three tests, with f free names and n nodes: one
+// pass over the nodes tells whether it passes the others, and only if it does not are they made one by
+// one. `due` and `ends` are for its own use, whatever they hold.
+fn check_nodes(file: &[u8], n: usize, f: usize, due: &mut [u16], ends: &mut [u16]) -> Checked
+    requires { ⌜ Headed (now file) n f ⌝ }
+    requires { ⌜ n ≤ length (now due) ⌝ }
     requires { ⌜ n ≤ length (now ends) ⌝ }
     ensures { λ r. ⌜ told r ≡ answer (now (file .entry)) ⌝ }
 {
-    if !is_term(file, n, sizes) {
-        return Checked::Refused(Refusal::Shape);
-    }
-    if !in_order(file, n, f) {
-        return Checked::Refused(Refusal::Binder);
-    }
-    if !in_scope(file, n, f, sizes, ends) {
-        return Checked::Refused(Refusal::Variable);
-    }
-    Checked::Accepted(counted(file, n, f))
+    let Tested::Passed(seen) = test_nodes(file, n, f, due, ends) else {
+        return Checked::Refused(first_refusal(file, n, f, due));
+    };
+    Checked::Accepted(counted(n, f, seen))
 }
 
-// The counts of a file with f free names and n nodes.
-fn counted(file: &[u8], n: usize, f: usize) -> Counts
-    requires { ⌜ Framed (now file) n ⌝ }
-    requires { ⌜ f ≡ freeNames (now file) ⌝ }
-    ensures { λ r. ⌜ r ≡ counts (now (file .entry)) ⌝ }
+// The first of the last four refusals that a file meets which is known to meet one. `sizes` is for its
+// own use.
+fn first_refusal(file: &[u8], n: usize, f: usize, sizes: &mut [u16]) -> Refusal
+    requires { ⌜ Headed (now file) n f ⌝ }
+    requires { ⌜ n ≤ length (now sizes) ⌝ }
+    requires { ⌜ tested f (codeOf (now file)) ≡ Failed ⌝ }
+    ensures { λ r. ⌜ refusal (now (file .entry)) ≡ some (number r) ⌝ }
 {
+    if !tags_known(file, n) {
+        return Refusal::Tag;
+    }
+    if !is_term(file, n, sizes) {
+        return Refusal::Shape;
+    }
+    if !in_order(file, n, f) {
+        return Refusal::Binder;
+    }
+    Refusal::Variable
+}
+
+// The counts of a term of n nodes with f free names and `seen` abstractions: of the other nodes, one
+// more is a variable than an application.
+fn counted(n: usize, f: usize, seen: usize) -> Counts
+    requires { ⌜ n ≤ maxNodes ⌝ }
+    requires { ⌜ seen < n ⌝ }
+    ensures { λ r. ⌜ r ≡ countsFrom f n seen ⌝ }
+{
+    let variables = (n - seen + 1) / 2;
     Counts {
         free: f,
         nodes: n,
-        abstractions: count_tag(file, n, 1),
-        variables: count_tag(file, n, 0),
-        applications: count_tag(file, n, 2),
+        abstractions: seen,
+        variables: variables,
+        applications: variables - 1,
     }
 }

@@ -11,7 +11,7 @@ ghost use lib.ListN.{length};
 ghost use Rattle.termfile.specs.Code.{Code};
 ghost use Rattle.termfile.specs.Nodes.{readNode};
 ghost use Rattle.termfile.specs.File.{codeOf, holds};
-ghost use Rattle.termfile.specs.Passes.{Framed, Sizes, sizesOf, joined};
+ghost use Rattle.termfile.specs.Passes.{Framed, sizesOf, joined};
 
 // What a node makes of the codes behind it: a code of a size, or none.
 pub enum Joined {
@@ -45,13 +45,12 @@ fn join(tag: u8, argument: usize, behind: &[u16]) -> Joined
     }
 }
 
-// Whether the nodes are one whole term: whether the code that starts at node 0 has all n nodes. If
-// so, `sizes` then has the size of each node's subterm.
+// Whether the nodes are one whole term: whether the code that starts at node 0 has all n nodes.
+// `sizes` is for its own use.
 pub fn is_term(file: &[u8], n: usize, sizes: &mut [u16]) -> bool
     requires { ⌜ Framed (now file) n ⌝ }
     requires { ⌜ n ≤ length (now sizes) ⌝ }
     ensures { λ r. ⌜ r ≡ holds (λ c. true) (codeOf (now (file .entry))) ⌝ }
-    ensures { λ _. ⌜ Sizes (now (file .entry)) n (now (sizes .exit)) ⌝ }
 {
     // The nodes from i on are codes one after the other, and their sizes are stored.
     let mut i = n;

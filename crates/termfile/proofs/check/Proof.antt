@@ -1,13 +1,12 @@
--- `check` meets its contract: a refusal by one of the tests 1 to 4 is told by the tests passed and the test failed, and behind them the
+-- `check` meets its contract: a refusal by one of the tests 1 to 3 is told by the tests passed and the test failed, and behind them the
 -- answer is that of `check_nodes`.
 -- Assumes nothing.
 use Prim.Native.Nat.{ℕ, _≤_}
-use mathlib.Core.Path.{_≡_, sym, _∙_}
+use mathlib.Core.Path.{_≡_}
 use mathlib.Core.List.{List}
-use borrow.Author.Tests.{not-true, not-false}
 use Rattle.termfile.specs.File.{maxFree, freeNames}
-use Rattle.termfile.specs.Passes.{Framed, Tagged}
-use Rattle.termfile.proofs.Refusals.{refused-short, refused-limits, refused-length, framed-refusal}
+use Rattle.termfile.specs.Passes.{Framed, Headed}
+use Rattle.termfile.proofs.Refusals.{refused-short, refused-limits, refused-length}
 use Rattle.termfile.proofs.Refusals.{long-enough, not-long-enough, many-names, no-nodes, many-nodes, in-limits, not-exact-length}
 use borrow.Author.Needs.{needs}
 use native.Mathlib.Omega.{arith}
@@ -28,15 +27,9 @@ few c = omega arith
 framed : (c : tie.Else5) → Framed (file c) (c .before .before .before .before .word-at2 .result)
 framed c = record { count = c .before .before .before .before .word-at2 .ensures; long = c .if5 .left; least = omega arith; most = omega arith }
 
--- Behind the test of the tags: what `check_nodes` requires of the file
-
-tagged : (c : tie.Else6)
-    → let at = c .before .before in
-    Tagged (file at) (at .before .before .before .before .word-at2 .result) (at .before .before .before .before .before .word-at .result)
-tagged c =
-    let at = c .before .before in
-    let call = c .before .tags-known in
-    record { framed = framed at; names = names at; few = few at; known = sym (call .ensures) ∙ not-false (call .result) (c .if6 .left) }
+headed : (c : tie.Else5)
+    → Headed (file c) (c .before .before .before .before .word-at2 .result) (c .before .before .before .before .before .word-at .result)
+headed c = record { framed = framed c; names = names c; few = few c }
 
 returns : tie.Need-returns
 returns c = let s = c .before .before .args .file .now in rw (refused-short s (not-long-enough s (c .if1 .taken)))
@@ -86,15 +79,6 @@ returns-5 c =
     (in-limits s (omega (arith, f .ensures)) (omega (arith, n .ensures)) (omega (arith, n .ensures)))
     (not-exact-length s (λ e. c .if5 .taken (omega (arith, n .ensures)))))
 
-tags-known-requires : tie.Need-tags-known-requires
-tags-known-requires c κs = framed c
-
-returns-6 : tie.Need-returns-6
-returns-6 c =
-    let at = c .before .before in
-    let call = c .before .tags-known in
-    rw (framed-refusal (framed at) (names at) (few at), ← call .ensures, not-true (call .result) (c .if6 .taken))
-
 slice-aggregate-check-nodes : tie.Need-slice-aggregate-check-nodes
 slice-aggregate-check-nodes c = search needs
 
@@ -102,10 +86,10 @@ slice-aggregate-check-nodes-2 : tie.Need-slice-aggregate-check-nodes-2
 slice-aggregate-check-nodes-2 c = search needs
 
 check-nodes-requires : tie.Need-check-nodes-requires
-check-nodes-requires c κs = (tagged (c .before .before .before), (search needs, search needs))
+check-nodes-requires c κs = (headed (c .before .before .before), (search needs, search needs))
 
-returns-7 : tie.Need-returns-7
-returns-7 c = search needs
+returns-6 : tie.Need-returns-6
+returns-6 c = search needs
 
 slice-aggregate-check-nodes-3 : tie.Need-slice-aggregate-check-nodes-3
 slice-aggregate-check-nodes-3 c = search needs
@@ -114,10 +98,10 @@ slice-aggregate-check-nodes-4 : tie.Need-slice-aggregate-check-nodes-4
 slice-aggregate-check-nodes-4 c = search needs
 
 check-nodes-requires-2 : tie.Need-check-nodes-requires-2
-check-nodes-requires-2 c κs = (tagged (c .before .before .before), (search needs, search needs))
+check-nodes-requires-2 c κs = (headed (c .before .before .before), (search needs, search needs))
 
-returns-8 : tie.Need-returns-8
-returns-8 c = search needs
+returns-7 : tie.Need-returns-7
+returns-7 c = search needs
 
 pub check-spec : {M : Type 1} → statement M
 check-spec =
@@ -134,13 +118,11 @@ check-spec =
     add-if5
     cast-if5-2
     returns-5
-    tags-known-requires
-    returns-6
     slice-aggregate-check-nodes
     slice-aggregate-check-nodes-2
     check-nodes-requires
-    returns-7
+    returns-6
     slice-aggregate-check-nodes-3
     slice-aggregate-check-nodes-4
     check-nodes-requires-2
-    returns-8)
+    returns-7)

@@ -60,7 +60,7 @@ returns c =
     let tag = c .before .before .before .before .before .before .tag-of in
     let argument = c .before .before .before .before .before .argument-of in
     let join = c .before .before .join in
-    reads-broken (start .args .file .now) (start .args .n) (loop .sizes)
+    reads-broken (start .args .file .now)
     (reads-none (start .pre .0) (loop .sizes) (omega arith) (loop .i) (test .taken) (loop .inv .0) (loop .inv .2) (tag .result)
     (argument .result) (tag .ensures) (argument .ensures)
     (sym (c .enum-told .given .1) ∙ join .ensures (loop .inv .2 .codes) (loop .inv .2 .sized)))

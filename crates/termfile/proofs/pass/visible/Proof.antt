@@ -1,4 +1,4 @@
--- `scope::visible` meets its contract: a name past the abstractions seen has no end, which reads as the end 0.
+-- `pass::visible` meets its contract: a name past the abstractions seen has no end, which reads as the end 0.
 -- Assumes nothing.
 use Prim.Native.Nat.{_-_, _≤_}
 use mathlib.Core.Path.{sym}
@@ -7,8 +7,8 @@ use lib.Seq.{length-take-le}
 use borrow.Author.Tests.{lt-ltb}
 use Rattle.termfile.proofs.Visibility.{sees-none, sees-first}
 use native.Mathlib.Omega.{arith}
-use Rattle.termfile.proofs.scope.visible.Statement.{statement}
-use Rattle.termfile.proofs.scope.visible.Tie as tie
+use Rattle.termfile.proofs.pass.visible.Statement.{statement}
+use Rattle.termfile.proofs.pass.visible.Tie as tie
 
 returns : tie.Need-returns
 returns c = rw (lt-ltb (c .before .args .x) (c .before .args .f) (c .if1 .taken))

@@ -1,0 +1,95 @@
+// Refusals 4 to 7 in one pass over the nodes, left to right: whether there is anything to refuse. At each
+// node it is known where the subterm that starts there has to end: the whole at n, a body where its
+// abstraction ends, a left part where the application's argument says, and a right part where its
+// application ends. The abstractions bind f, f + 1 and so on, so the name f + k is that of the k-th.
+use crate::layout::argument_of;
+use crate::layout::tag_of;
+ghost use mathlib.Core.Path.{_≡_};
+ghost use Prim.Native.Nat.{_≤_, _-_};
+ghost use mathlib.Core.Bool.{_||_};
+ghost use lib.Dec.{ltb};
+ghost use lib.ListN.{length, getD, take};
+ghost use Rattle.termfile.specs.File.{codeOf, maxFree};
+ghost use Rattle.termfile.specs.Passes.{Framed, tested};
+
+// What the pass finds: nothing to refuse, and how many abstractions there are; or something.
+pub enum Tested {
+    Passed(usize),
+    Failed,
+}
+
+// Whether the name x is free, or is that of one of the first `seen` abstractions and node i lies in
+// its subterm. ends[k] is the position just past the k-th abstraction's subterm.
+fn visible(x: usize, f: usize, i: usize, ends: &[u16], seen: usize) -> bool
+    requires { ⌜ seen ≤ length (now ends) ⌝ }
+    ensures { λ r. ⌜ r ≡ ltb x f || ltb i (getD (take seen (now (ends .entry))) (x - f) 0) ⌝ }
+{
+    if x < f {
+        return true;
+    }
+    let k = x - f;
+    if seen <= k {
+        return false;
+    }
+    i < ends[k] as usize
+}
+
+// Whether the nodes are one whole term, with its abstractions in order and its variables in scope.
+// `due` and `ends` are for its own use.
+pub fn test_nodes(file: &[u8], n: usize, f: usize, due: &mut [u16], ends: &mut [u16]) -> Tested
+    requires { ⌜ Framed (now file) n ⌝ }
+    requires { ⌜ f ≤ maxFree ⌝ }
+    requires { ⌜ n ≤ length (now due) ⌝ }
+    requires { ⌜ n ≤ length (now ends) ⌝ }
+    ensures { λ r. ⌜ r ≡ tested f (codeOf (now (file .entry))) ⌝ }
+{
+    // The first i nodes are as they have to be; `seen` of them are abstractions, and their ends are
+    // stored. The subterm that starts at node i has to end at `end`, and the right parts to come at
+    // the positions from `top` on, up to a 0: nothing is left there.
+    let mut top = due.len() - 1;
+    due[top] = 0;
+    let mut end = n;
+    let mut seen = 0;
+    let mut i = 0;
+    while i < n {
+        let at = i;
+        i += 1;
+        let tag = tag_of(file, n, at);
+        let argument = argument_of(file, n, at);
+        match tag {
+            0 => {
+                if end != i {
+                    return Tested::Failed;
+                }
+                if !visible(argument, f, at, ends, seen) {
+                    return Tested::Failed;
+                }
+                end = due[top] as usize;
+                top += 1;
+            }
+            1 => {
+                if argument != f + seen {
+                    return Tested::Failed;
+                }
+                ends[seen] = end as u16;
+                seen += 1;
+            }
+            2 => {
+                let left = i + argument;
+                if end <= left {
+                    return Tested::Failed;
+                }
+                top -= 1;
+                due[top] = end as u16;
+                end = left;
+            }
+            _ => {
+                return Tested::Failed;
+            }
+        }
+    }
+    if end != 0 {
+        return Tested::Failed;
+    }
+    Tested::Passed(seen)
+}
