@@ -1,28 +1,27 @@
--- Refusals 4 to 7 as one pass over the nodes, left to right. The idea: each node says where the subterms behind it have to end, so that
--- the nodes are codes one after the other exactly when each variable stands at an end and in the end nothing is due. Letters: p q are
--- positions, n is the number of nodes, es has the ends of the abstractions passed; due has where the subterms to come have to end, the
--- present one first, and a 0 behind the last.
+-- Refusals 4 to 7 as one pass over the nodes, left to right. The idea: a node says where the subterms that follow it have to end, so the
+-- nodes are codes one after the other exactly when each variable stands where an end is due, and nothing is due in the end. Letters: p q
+-- are positions, n is the number of nodes; due has where the subterms to come have to end, the present one first, and then a 0; es has the
+-- ends of the abstractions passed.
 -- Assumes nothing.
-use Prim.Native.Nat.{ℕ, zero, suc, _+_, _-_, _≤_, _<_}
+use Prim.Native.Nat.{ℕ, zero, suc, _+_, _≤_, _<_}
 use mathlib.Core.Path.{_≡_, refl, sym, ap, ap₂, subst, _∙_}
-use mathlib.Core.Bool.{Bool, true, false, cond, _&&_, and-eq-true-iff, and-false}
+use mathlib.Core.Bool.{Bool, true, false, cond, _&&_, and-eq-true-iff}
 use mathlib.Core.List.{List, [], _∷_, _++_, append-assoc, append-nil}
 use mathlib.Core.Option.{Option, none, some, Option·none-ne-some}
 use native.Mathlib.Omega.{arith}
 use native.Mathlib.Numerals.{add-one}
 use lib.Dec.{eqb, ltb}
-use lib.ListN.{length, getD, take, drop, set, length-append, length-drop, length-set}
-use lib.Seq.{drop-cons, getD-set-same, drop-set-lt, length-take-le}
+use lib.ListN.{length, getD, length-append}
 use borrow.Author.Tests.{lt-ltb, le-ltb, eq-eqb, ne-eqb, eqb-true, ltb-true}
 use Rattle.termfile.specs.Code.{Code, var, abs, app, size, abstractions, numbered, scoped}
-use Rattle.termfile.specs.Nodes.{Node, write, readNode, forest, single, read}
-use Rattle.termfile.specs.File.{tags, arguments, nodes, codeOf}
+use Rattle.termfile.specs.Nodes.{Node, write, forest, single, read}
+use Rattle.termfile.specs.File.{nodes, codeOf}
 use Rattle.termfile.specs.Passes.{Framed, tested}
 use Rattle.termfile.specs.declared.pass.Tested.{Tested}
 use Rattle.termfile.specs.declared.pass.Tested.the-variants.{Passed, Failed}
-use Rattle.termfile.proofs.Frame.{nodes-next, nodes-end, length-nodes}
+use Rattle.termfile.proofs.Frame.{length-nodes}
 use Rattle.termfile.proofs.Reading.{read-is, length-write, size-pos}
-use Rattle.termfile.proofs.Visibility.{sees, sees-member, endsIn, endsIn-most, length-endsIn, ends-more, Agrees, agrees-later, agrees-binder}
+use Rattle.termfile.proofs.Visibility.{sees, sees-member, endsIn, endsIn-most, length-endsIn, Agrees, agrees-later, agrees-binder}
 
 abbrev pub passes : ℕ → ℕ → List ℕ → List ℕ → List Node → Tested
 passes f p due es [] = cond (eqb (getD due 0 1) 0) (Passed (length es)) Failed
@@ -32,7 +31,7 @@ passes f p (e ∷ due) es (node ∷ ns) =
     (cond (eqb (node .tag) 1) (cond (eqb (node .argument) (f + length es)) (passes f (suc p) (e ∷ due) (es ++ (e ∷ [])) ns) Failed)
     (cond (eqb (node .tag) 2) (cond (ltb (suc p + node .argument) e) (passes f (suc p) ((suc p + node .argument) ∷ e ∷ due) es ns) Failed) Failed))
 
--- Over the nodes of a code the pass is the paper's conditions, and goes on behind them
+-- Over the nodes of a code the pass is the paper's two conditions, and goes on behind them
 
 both : (a b c d : Bool) (r : Tested) → cond (a && b) (cond (c && d) r Failed) Failed ≡ cond ((a && c) && (b && d)) r Failed
 both true true c d r = refl
@@ -58,7 +57,7 @@ passes-write (abs x c) f p q due es around ns e a =
     more : es ++ (q ∷ []) ++ endsIn (suc p) c ≡ es ++ endsIn p (abs x c)
     more = append-assoc es (q ∷ []) (endsIn (suc p) c) ∙ ap (λ (i : ℕ). es ++ (i ∷ endsIn (suc p) c)) e
 
-    -- the pass from the body on, and what it is
+    -- the pass from the body on, and what it has to be
     body : Tested
     body = passes f (suc p) (q ∷ due) (es ++ (q ∷ [])) (write c ++ ns)
 
@@ -99,7 +98,7 @@ abbrev closings : ℕ → List Code → List ℕ
 closings p [] = 0 ∷ []
 closings p (c ∷ cs) = (p + size c) ∷ closings (p + size c) cs
 
--- nodes from p on that read as codes which end where they are due
+-- nodes from p on that read as codes, which end where it is due
 record Shape (ns : List Node) (p : ℕ) (due : List ℕ) : Type 0 where
   codes : List Code
   whole : forest ns ≡ some codes
@@ -112,7 +111,8 @@ cond-passed : (b : Bool) (r : Tested) (k : ℕ) → cond b r Failed ≡ Passed k
 cond-passed true r k e = (refl, e)
 cond-passed false r k e = absurd (failed-passed e)
 
-module _ (m n p : ℕ) (e d : ℕ) (due : List ℕ) (ns : List Node) where
+-- a node with the argument m in front of such nodes
+module _ (m p e d : ℕ) (due : List ℕ) (ns : List Node) where
   abbrev Here : ℕ → Type 0
   Here t = Shape (record { tag = t; argument = m } ∷ ns) p (e ∷ d ∷ due)
 
@@ -154,6 +154,7 @@ module _ (m n p : ℕ) (e d : ℕ) (due : List ℕ) (ns : List Node) where
 other-tag : (t j : ℕ) → j ≤ 2 → eqb (suc (suc (suc t))) j ≡ false
 other-tag t j h = ne-eqb (suc (suc (suc t))) j (λ e. omega arith)
 
+-- nodes that pass, up to the last of them, have this shape
 passes-shape : (ns : List Node) (f n p k : ℕ) (due es : List ℕ) → Closes n p due → n ≡ p + length ns → passes f p due es ns ≡ Passed k → Shape ns p due
 passes-shape [] f n p k [] es h e q = absurd h
 passes-shape [] f n p k (d ∷ []) es h e q = record { codes = []; whole = refl; close = ap (λ (i : ℕ). i ∷ []) (h .0) }
@@ -169,16 +170,19 @@ passes-shape (node ∷ ns) f n p k (d ∷ d′ ∷ due) es h e q =
     go zero rest r =
         let next = cond-passed _ _ k r in
         let end : d ≡ suc p = eqb-true d (suc p) (and-eq-true-iff (eqb d (suc p)) (sees f p es (node .argument)) .0 (next .0) .0) in
-        shape-variable (node .argument) n p d d′ due ns end (rest (d′ ∷ due) es (subst (λ (i : ℕ). Closes n i (d′ ∷ due)) end (h .2)) (next .1))
-    go (suc zero) rest r = shape-binder (node .argument) n p d d′ due ns (rest (d ∷ d′ ∷ due) (es ++ (d ∷ [])) h (cond-passed (eqb (node .argument) (f + length es)) _ k r .1))
+        shape-variable (node .argument) p d d′ due ns end (rest (d′ ∷ due) es (subst (λ (i : ℕ). Closes n i (d′ ∷ due)) end (h .2)) (next .1))
+    go (suc zero) rest r =
+        let next = cond-passed (eqb (node .argument) (f + length es)) _ k r in
+        shape-binder (node .argument) p d d′ due ns (rest (d ∷ d′ ∷ due) (es ++ (d ∷ [])) h (next .1))
     go (suc (suc zero)) rest r =
         let next = cond-passed (ltb (suc p + node .argument) d) _ k r in
         let left = ltb-true (suc p + node .argument) d (next .0) in
-        shape-application (node .argument) n p d d′ due ns
+        shape-application (node .argument) p d d′ due ns
         (rest ((suc p + node .argument) ∷ d ∷ d′ ∷ due) es (omega arith, omega (arith, h .1), h) (next .1))
-    go (suc (suc (suc t))) rest r = absurd (failed-passed (rw (other-tag t 0 (omega arith), other-tag t 1 (omega arith), other-tag t 2 (omega arith)) at r))
+    go (suc (suc (suc t))) rest r =
+        absurd (failed-passed (rw (other-tag t 0 (omega arith), other-tag t 1 (omega arith), other-tag t 2 (omega arith)) at r))
 
--- nodes of which no code is due in the end but the one that ends at n are that code
+-- where one end is due, at n, the nodes are one code
 shape-read : {ns : List Node} {n : ℕ} → Shape ns 0 (n ∷ 0 ∷ []) → (c : Code) × (read ns ≡ some c)
 shape-read {ns} {n} r = go (r .codes) (r .whole) (r .close)
   where
@@ -195,7 +199,8 @@ passed-none (Passed k) h = absurd (h k refl)
 passed-none Failed h = refl
 
 pub passes-file : {s : List ℕ} {n : ℕ} → Framed s n → (f : ℕ) → tested f (codeOf s) ≡ passes f 0 (n ∷ 0 ∷ []) [] (nodes s)
-passes-file {s} {n} framed f = go (codeOf s) (read-is (nodes s)) (λ k e. shape-read (passes-shape (nodes s) f n 0 k (n ∷ 0 ∷ []) [] closes long e))
+passes-file {s} {n} framed f =
+    go (codeOf s) (read-is (nodes s)) (λ k e. shape-read (passes-shape (nodes s) f n 0 k (n ∷ 0 ∷ []) [] closes long e))
   where
     long : n ≡ 0 + length (nodes s)
     long = omega (arith, length-nodes framed)

@@ -5,17 +5,15 @@
 use Prim.Native.Nat.{ℕ, suc, _+_, _-_, _≤_, _<_}
 use mathlib.Core.Path.{_≡_, refl, sym, ap, ap₂, subst, _∙_}
 use mathlib.Core.Bool.{true, false, cond, and-false}
-use mathlib.Core.List.{List, [], _∷_, _++_}
+use mathlib.Core.List.{List, [], _∷_}
 use native.Mathlib.Omega.{arith}
 use native.Mathlib.Numerals.{add-one}
 use lib.Dec.{eqb}
 use lib.ListN.{length, getD, take, drop, set, length-drop, length-set, drop-of-length-le}
 use lib.Seq.{drop-cons, length-take-le}
 use borrow.Author.Tests.{lt-ltb, le-ltb, eq-eqb, ne-eqb}
-use Rattle.termfile.specs.Nodes.{Node}
 use Rattle.termfile.specs.File.{tags, arguments, nodes, codeOf}
 use Rattle.termfile.specs.Passes.{Framed, tested}
-use Rattle.termfile.specs.declared.pass.Tested.{Tested}
 use Rattle.termfile.specs.declared.pass.Tested.the-variants.{Passed, Failed}
 use Rattle.termfile.proofs.Frame.{nodes-next, nodes-end}
 use Rattle.termfile.proofs.Sets.{drop-set}
@@ -115,6 +113,7 @@ module _ {s : List ℕ} {n f : ℕ} {due ends : List ℕ} {top end seen i t m : 
 
   -- Where it goes on
 
+  -- a variable: what is due next is taken off
   pub variable-next : t ≡ 0 → end ≡ i + 1 → sees f i (take seen ends) m ≡ true → Passing s n f due ends (top + 1) (getD due top 0) seen (i + 1)
   variable-next a b c =
       record {
@@ -122,7 +121,10 @@ module _ {s : List ℕ} {n f : ℕ} {due ends : List ℕ} {top end seen i t m : 
         few = omega arith;
         room = omega arith;
         closes = subst (Closes n (i + 1)) off (subst (λ (e : ℕ). Closes n e (drop top due)) b (more .3));
-        same = here ∙ rw (eq-eqb t 0 a, eq-eqb end (suc i) (omega arith), c) (ap₂ (λ (j : ℕ) (l : List ℕ). passes f j l (take seen ends) (drop (i + 1) (nodes s))) (sym (add-one i)) off);
+        same =
+            here
+            ∙ rw (eq-eqb t 0 a, eq-eqb end (suc i) (omega arith), c)
+            (ap₂ (λ (j : ℕ) (l : List ℕ). passes f j l (take seen ends) (drop (i + 1) (nodes s))) (sym (add-one i)) off);
       }
     where
       off : drop top due ≡ getD due top 0 ∷ drop (top + 1) due
@@ -139,7 +141,8 @@ module _ {s : List ℕ} {n f : ℕ} {due ends : List ℕ} {top end seen i t m : 
         same =
             here
             ∙ rw (a, length-ends, eq-eqb m (f + seen) b)
-            (ap₂ (λ (j : ℕ) (es : List ℕ). passes f j (end ∷ drop top due) es (drop (i + 1) (nodes s))) (sym (add-one i)) (sym (ends-more ends seen end (omega (arith, u .ends-long)))));
+            (ap₂ (λ (j : ℕ) (es : List ℕ). passes f j (end ∷ drop top due) es (drop (i + 1) (nodes s))) (sym (add-one i))
+            (sym (ends-more ends seen end (omega (arith, u .ends-long)))));
       }
 
   -- an application: where it has to end is put in front, and its left part is the present subterm

@@ -1,5 +1,5 @@
--- What the check's private functions are held to, beyond the paper's definitions: where a file's parts lie, and the sizes of a code's subterms.
--- Letters: s is a list of bytes, n its count of nodes, f that of free names, zs are sizes.
+-- What the check's private functions are held to, beyond the paper's definitions: where a file's parts lie, what the tests of its nodes
+-- find, and the sizes of a code's subterms. Letters: s is a list of bytes, n its count of nodes, f that of free names, l that of abstractions.
 use Prim.Native.Nat.{ℕ, _+_, _-_, _*_, _/_, _≤_}
 use mathlib.Core.Path.{_≡_}
 use mathlib.Core.Bool.{cond, _&&_}
@@ -21,18 +21,18 @@ pub record Framed (s : List ℕ) (n : ℕ) : Type 0 where
   pub least : 1 ≤ n
   pub most : n ≤ maxNodes
 
--- and f is its count of free names
+-- such a file, and f is its count of free names
 pub record Headed (s : List ℕ) (n f : ℕ) : Type 0 where
   pub framed : Framed s n
   pub names : f ≡ freeNames s
   pub few : f ≤ maxFree
 
--- whether the tests 4 to 7 find nothing to refuse in the code that the nodes stand for, if they stand for one; and if so, its abstractions
+-- what the tests 4 to 7 find, where the nodes stand for this code, if for any: that it passes them, and the number of its abstractions
 abbrev pub tested : ℕ → Option Code → Tested
 tested f none = Failed
 tested f (some c) = cond (numbered f c && scoped f [] c) (Passed (abstractions c)) Failed
 
--- the counts of a code of n nodes, of which l are abstractions
+-- the counts of a code with n nodes: of those that are no abstractions, one more is a variable than is an application
 abbrev pub countsFrom : ℕ → ℕ → ℕ → Counts
 countsFrom f n l =
     record { free = f; nodes = n; abstractions = l; variables = (n - l + 1) / 2; applications = (n - l + 1) / 2 - 1 }

@@ -2,7 +2,7 @@
 // takes any byte string and promises the answer that paper 01's table of numbered answers gives for
 // it: the counts of an accepted file, or the first refusal that the file meets, each tested over the
 // whole file before the next. It writes to nothing that is lent to it, and takes time linear in the
-// file. Refused are:
+// file; over the nodes of an accepted file it goes once. Refused are:
 //
 //   1 Short     fewer than 4 bytes
 //   2 Limits    above 16,384 free names, no node, or above 16,384 nodes
@@ -20,8 +20,8 @@ mod tags;
 
 ghost use mathlib.Core.Path.{_≡_};
 ghost use Prim.Native.Nat.{_≤_, _<_};
-ghost use lib.ListN.{length};
 ghost use mathlib.Core.Option.{some};
+ghost use lib.ListN.{length};
 ghost use Rattle.termfile.specs.Answer.{answer, told, number};
 ghost use Rattle.termfile.specs.File.{word, codeOf, refusal, maxNodes};
 ghost use Rattle.termfile.specs.Passes.{Headed, tested, countsFrom};
@@ -132,8 +132,8 @@ pub fn check(file: &[u8]) -> Checked
 }
 
 // The answer for a file that has passed the first three tests, with f free names and n nodes: one
-// pass over the nodes tells whether it passes the others, and only if it does not are they made one by
-// one. `due` and `ends` are for its own use, whatever they hold.
+// pass over the nodes tells whether it passes the others, and only where it does not are these made
+// one by one. `due` and `ends` are for its own use, whatever they hold.
 fn check_nodes(file: &[u8], n: usize, f: usize, due: &mut [u16], ends: &mut [u16]) -> Checked
     requires { ⌜ Headed (now file) n f ⌝ }
     requires { ⌜ n ≤ length (now due) ⌝ }
@@ -146,7 +146,8 @@ fn check_nodes(file: &[u8], n: usize, f: usize, due: &mut [u16], ends: &mut [u16
     Checked::Accepted(counted(n, f, seen))
 }
 
-// The first of the last four refusals that a file meets which is known to meet one. `sizes` is for its
+// The refusal of a file that has passed the first three tests and is known not to pass all others: the
+// first of them that it does not pass, and the last where it passes those before. `sizes` is for its
 // own use.
 fn first_refusal(file: &[u8], n: usize, f: usize, sizes: &mut [u16]) -> Refusal
     requires { ⌜ Headed (now file) n f ⌝ }
@@ -167,7 +168,7 @@ fn first_refusal(file: &[u8], n: usize, f: usize, sizes: &mut [u16]) -> Refusal
 }
 
 // The counts of a term of n nodes with f free names and `seen` abstractions: of the other nodes, one
-// more is a variable than an application.
+// more is a variable than is an application.
 fn counted(n: usize, f: usize, seen: usize) -> Counts
     requires { ⌜ n ≤ maxNodes ⌝ }
     requires { ⌜ seen < n ⌝ }

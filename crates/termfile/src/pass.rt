@@ -1,7 +1,7 @@
-// Refusals 4 to 7 in one pass over the nodes, left to right: whether there is anything to refuse. At each
+// Refusals 4 to 7 in one pass over the nodes, left to right: whether a file meets none of them. At each
 // node it is known where the subterm that starts there has to end: the whole at n, a body where its
 // abstraction ends, a left part where the application's argument says, and a right part where its
-// application ends. The abstractions bind f, f + 1 and so on, so the name f + k is that of the k-th.
+// application ends. So each variable has to stand at such an end, and the last of them at n.
 use crate::layout::argument_of;
 use crate::layout::tag_of;
 ghost use mathlib.Core.Path.{_≡_};
@@ -12,14 +12,15 @@ ghost use lib.ListN.{length, getD, take};
 ghost use Rattle.termfile.specs.File.{codeOf, maxFree};
 ghost use Rattle.termfile.specs.Passes.{Framed, tested};
 
-// What the pass finds: nothing to refuse, and how many abstractions there are; or something.
+// What the pass finds: nothing to refuse, and so many abstractions; or something to refuse.
 pub enum Tested {
     Passed(usize),
     Failed,
 }
 
 // Whether the name x is free, or is that of one of the first `seen` abstractions and node i lies in
-// its subterm. ends[k] is the position just past the k-th abstraction's subterm.
+// its subterm. The abstractions bind f, f + 1 and so on, so the name f + k is that of the k-th; ends[k]
+// is the position just past its subterm.
 fn visible(x: usize, f: usize, i: usize, ends: &[u16], seen: usize) -> bool
     requires { ⌜ seen ≤ length (now ends) ⌝ }
     ensures { λ r. ⌜ r ≡ ltb x f || ltb i (getD (take seen (now (ends .entry))) (x - f) 0) ⌝ }
@@ -34,8 +35,8 @@ fn visible(x: usize, f: usize, i: usize, ends: &[u16], seen: usize) -> bool
     i < ends[k] as usize
 }
 
-// Whether the nodes are one whole term, with its abstractions in order and its variables in scope.
-// `due` and `ends` are for its own use.
+// Whether the nodes are one whole term with its abstractions in order and its variables in scope, and
+// how many abstractions it has. `due` and `ends` are for its own use.
 pub fn test_nodes(file: &[u8], n: usize, f: usize, due: &mut [u16], ends: &mut [u16]) -> Tested
     requires { ⌜ Framed (now file) n ⌝ }
     requires { ⌜ f ≤ maxFree ⌝ }
@@ -43,9 +44,9 @@ pub fn test_nodes(file: &[u8], n: usize, f: usize, due: &mut [u16], ends: &mut [
     requires { ⌜ n ≤ length (now ends) ⌝ }
     ensures { λ r. ⌜ r ≡ tested f (codeOf (now (file .entry))) ⌝ }
 {
-    // The first i nodes are as they have to be; `seen` of them are abstractions, and their ends are
-    // stored. The subterm that starts at node i has to end at `end`, and the right parts to come at
-    // the positions from `top` on, up to a 0: nothing is left there.
+    // In the first i nodes there is nothing to refuse; `seen` of them are abstractions, and their ends
+    // are stored. The subterm that starts at node i has to end at `end`. Where the right parts to come
+    // have to end is in `due` from `top` on, the next first, and then a 0: nothing is left.
     let mut top = due.len() - 1;
     due[top] = 0;
     let mut end = n;

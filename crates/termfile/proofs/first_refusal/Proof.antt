@@ -6,7 +6,7 @@ use mathlib.Core.Path.{_≡_, sym, _∙_}
 use mathlib.Core.Bool.{true}
 use mathlib.Core.List.{List}
 use borrow.Author.Tests.{not-true, not-false}
-use Rattle.termfile.specs.File.{codeOf, tagsKnown, oneTerm, refusal}
+use Rattle.termfile.specs.File.{codeOf, oneTerm, refusal}
 use Rattle.termfile.proofs.Refusals.{nodeTests, headed-refusal}
 use Rattle.termfile.proofs.Outcome.{failed-scope}
 use borrow.Author.Needs.{needs}

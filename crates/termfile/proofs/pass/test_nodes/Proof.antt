@@ -27,7 +27,8 @@ kept d = d .loop .inv .0 ∙ simp length-set
 turn : (d : tie.After-argument-of Inv-loop μ-loop)
     → let start = d .before .before .before .before .before .before .before .args in
     let loop = d .before .before .before .loop in
-    Turn (start .file .now) (start .n) (start .f) (loop .due) (loop .ends) (loop .top) (loop .end) (loop .seen) (loop .i) (d .before .tag-of .result) (d .argument-of .result)
+    Turn (start .file .now) (start .n) (start .f) (loop .due) (loop .ends) (loop .top) (loop .end) (loop .seen) (loop .i)
+    (d .before .tag-of .result) (d .argument-of .result)
 turn d =
     let start = d .before .before .before .before .before .before .before in
     let loop = d .before .before .before .loop in
@@ -51,7 +52,9 @@ slice-write-due : tie.Need-slice-write-due Inv-loop μ-loop
 slice-write-due c = omega (arith, c .before .before .before .pre .0 .least)
 
 loop-holds : tie.Need-loop-holds Inv-loop μ-loop
-loop-holds c = let start = c .before .before .before in (refl, refl, passing-start (start .pre .0) (start .args .f) (start .args .due .now) (start .args .ends .now) (start .pre .1 .1 .0))
+loop-holds c =
+    let start = c .before .before .before in
+    (refl, refl, passing-start (start .pre .0) (start .args .f) (start .args .due .now) (start .args .ends .now) (start .pre .1 .1 .0))
 
 add-i : tie.Need-add-i Inv-loop μ-loop
 add-i c = omega arith
