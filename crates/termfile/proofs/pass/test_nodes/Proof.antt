@@ -72,7 +72,7 @@ same-length-2 : tie.Need-same-length-2 Inv-loop μ-loop
 same-length-2 c = c .before .before .before .before .before .loop .inv .1
 
 returns : tie.Need-returns Inv-loop μ-loop
-returns c = sym (fails-end (turn (c .before .before)) (c .before .match .keys1) (c .if1 .taken))
+returns c = sym (fails-end (turn (c .before .before)) (c .before .match .keys1) (λ e. omega (arith, c .if1 .taken)))
 
 visible-requires : tie.Need-visible-requires Inv-loop μ-loop
 visible-requires c κs = omega (arith, c .before .before .before .before .before .before .before .before .before .before .pre .1 .1 .1)
@@ -100,7 +100,12 @@ cast-end : tie.Need-cast-end Inv-loop μ-loop
 cast-end c = omega (arith, c .slice-known3 .given (c .before .before .before .before .before .before .before .before .before .loop .top))
 
 add-top : tie.Need-add-top Inv-loop μ-loop
-add-top c = omega (arith, due-more (turn (c .before .before .before .before .before .before)), kept (c .before .before .before .before .before .before .before .before .before))
+add-top c =
+    omega (
+      arith,
+      due-more (turn (c .before .before .before .before .before .before)),
+      kept (c .before .before .before .before .before .before .before .before .before),
+    )
 
 loop-less : tie.Need-loop-less Inv-loop μ-loop
 loop-less c = omega arith
@@ -125,7 +130,7 @@ same-length-6 : tie.Need-same-length-6 Inv-loop μ-loop
 same-length-6 c = c .before .before .before .before .before .loop .inv .1
 
 returns-3 : tie.Need-returns-3 Inv-loop μ-loop
-returns-3 c = sym (fails-name (turn (c .before .before)) (c .before .match .keys2) (c .if3 .taken))
+returns-3 c = sym (fails-name (turn (c .before .before)) (c .before .match .keys2) (λ e. omega (arith, c .if3 .taken)))
 
 cast-ends : tie.Need-cast-ends Inv-loop μ-loop
 cast-ends c = omega (arith, end-most (turn (c .before .before)), c .before .before .before .before .before .before .before .before .before .pre .0 .most)
@@ -153,7 +158,12 @@ add-left c =
     let byte = c .before .before .before .before .before .before .before .shared-slice-known .given in
     let i = c .before .before .before .before .loop .i in
     let at = 4 + start .args .n + 2 * i in
-    omega (arith, argument-at (start .args .file .now) (start .pre .0 .count) (exact (start .pre .0)) i (c .before .before .before .loop-test .taken), byte at, byte (at + 1))
+    omega (
+      arith,
+      argument-at (start .args .file .now) (start .pre .0 .count) (exact (start .pre .0)) i (c .before .before .before .loop-test .taken),
+      byte at,
+      byte (at + 1),
+    )
 
 same-length-7 : tie.Need-same-length-7 Inv-loop μ-loop
 same-length-7 c = kept (c .before .before .before .before .before)
@@ -165,7 +175,13 @@ returns-4 : tie.Need-returns-4 Inv-loop μ-loop
 returns-4 c = sym (fails-left (turn (c .before .before)) (c .before .match .keys3) (c .if4 .taken))
 
 sub-top-2 : tie.Need-sub-top-2 Inv-loop μ-loop
-sub-top-2 c = omega (arith, end-most (turn (c .before .before)), kept (c .before .before .before .before .before), c .before .before .before .before .before .before .before .before .before .pre .1 .1 .0)
+sub-top-2 c =
+    omega (
+      arith,
+      end-most (turn (c .before .before)),
+      kept (c .before .before .before .before .before),
+      c .before .before .before .before .before .before .before .before .before .pre .1 .1 .0,
+    )
 
 cast-due : tie.Need-cast-due Inv-loop μ-loop
 cast-due c = omega (arith, end-most (turn (c .before .before)), c .before .before .before .before .before .before .before .before .before .pre .0 .most)
@@ -181,8 +197,11 @@ loop-less-3 c = omega arith
 
 loop-again-3 : tie.Need-loop-again-3 Inv-loop μ-loop
 loop-again-3 c =
-    let loop = c .before .before .before .before .before .loop in
-    (length-set (loop .due) (loop .top - 1) (loop .end) ∙ loop .inv .0, loop .inv .1, application-next (turn (c .before .before)) (c .before .match .keys3) (c .if4 .left))
+    let loop = c .before .before .before .before .before .loop in (
+      length-set (loop .due) (loop .top - 1) (loop .end) ∙ loop .inv .0,
+      loop .inv .1,
+      application-next (turn (c .before .before)) (c .before .match .keys3) (c .if4 .left),
+    )
 
 same-length-9 : tie.Need-same-length-9 Inv-loop μ-loop
 same-length-9 c = kept (c .before .before .before .before)
