@@ -88,13 +88,13 @@ const MAX_FREE: usize = 16384;
 
 const MAX_NODES: usize = 16384;
 
-// The most nodes of a file that is checked in small arrays: to zero the large ones takes longer than
-// all else that a small file asks for.
+// The most nodes of a file that is checked in a small array: to zero the large one takes longer than all
+// else that a small file asks for.
 const SMALL: usize = 256;
 
 // Whether a byte string is a term file: its counts, or the first of the seven refusals that it
-// meets. The answer is an equation with its definition, for every byte string; only two arrays of
-// the function's own are written.
+// meets. The answer is an equation with its definition, for every byte string; only an array of the
+// function's own is written.
 //
 // Ruled out, for instance: accepting `a2 l0 v0 v0` with f = 0, whose last variable is bound by a
 // neighbouring abstraction and not by one around it (must-fail/scope_past_end.edit); and answering
@@ -122,26 +122,23 @@ pub fn check(file: &[u8]) -> Checked
         return Checked::Refused(Refusal::Length);
     }
     if n <= SMALL {
-        let mut due = [0u16; SMALL];
-        let mut ends = [0u16; SMALL];
-        return check_nodes(file, n, f, &mut due, &mut ends);
+        let mut ends = [0u16; SMALL + 1];
+        return check_nodes(file, n, f, &mut ends);
     }
-    let mut due = [0u16; MAX_NODES];
-    let mut ends = [0u16; MAX_NODES];
-    check_nodes(file, n, f, &mut due, &mut ends)
+    let mut ends = [0u16; MAX_NODES + 1];
+    check_nodes(file, n, f, &mut ends)
 }
 
 // The answer for a file that has passed the first three tests, with f free names and n nodes: one
 // pass over the nodes tells whether it passes the others, and only where it does not are these made
-// one by one. `due` and `ends` are for its own use, whatever they hold.
-fn check_nodes(file: &[u8], n: usize, f: usize, due: &mut [u16], ends: &mut [u16]) -> Checked
+// one by one. `ends` is for its own use, whatever it holds.
+fn check_nodes(file: &[u8], n: usize, f: usize, ends: &mut [u16]) -> Checked
     requires { ⌜ Headed (now file) n f ⌝ }
-    requires { ⌜ n ≤ length (now due) ⌝ }
-    requires { ⌜ n ≤ length (now ends) ⌝ }
+    requires { ⌜ n < length (now ends) ⌝ }
     ensures { λ r. ⌜ told r ≡ answer (now (file .entry)) ⌝ }
 {
-    let Tested::Passed(seen) = test_nodes(file, n, f, due, ends) else {
-        return Checked::Refused(first_refusal(file, n, f, due));
+    let Tested::Passed(seen) = test_nodes(file, n, f, ends) else {
+        return Checked::Refused(first_refusal(file, n, f, ends));
     };
     Checked::Accepted(counted(n, f, seen))
 }

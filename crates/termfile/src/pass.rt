@@ -5,7 +5,7 @@
 use crate::layout::argument_of;
 use crate::layout::tag_of;
 ghost use mathlib.Core.Path.{_≡_};
-ghost use Prim.Native.Nat.{_≤_, _-_};
+ghost use Prim.Native.Nat.{_≤_, _<_, _-_};
 ghost use mathlib.Core.Bool.{_||_};
 ghost use lib.Dec.{ltb};
 ghost use lib.ListN.{length, getD, take};
@@ -36,19 +36,19 @@ fn visible(x: usize, f: usize, i: usize, ends: &[u16], seen: usize) -> bool
 }
 
 // Whether the nodes are one whole term with its abstractions in order and its variables in scope, and
-// how many abstractions it has. `due` and `ends` are for its own use.
-pub fn test_nodes(file: &[u8], n: usize, f: usize, due: &mut [u16], ends: &mut [u16]) -> Tested
+// how many abstractions it has. `ends` is for its own use.
+pub fn test_nodes(file: &[u8], n: usize, f: usize, ends: &mut [u16]) -> Tested
     requires { ⌜ Framed (now file) n ⌝ }
     requires { ⌜ f ≤ maxFree ⌝ }
-    requires { ⌜ n ≤ length (now due) ⌝ }
-    requires { ⌜ n ≤ length (now ends) ⌝ }
+    requires { ⌜ n < length (now ends) ⌝ }
     ensures { λ r. ⌜ r ≡ tested f (codeOf (now (file .entry))) ⌝ }
 {
-    // In the first i nodes there is nothing to refuse; `seen` of them are abstractions, and their ends
-    // are stored. The subterm that starts at node i has to end at `end`. Where the right parts to come
-    // have to end is in `due` from `top` on, the next first, and then a 0: nothing is left.
-    let mut top = due.len() - 1;
-    due[top] = 0;
+    // In the first i nodes there is nothing to refuse, and `seen` of them are abstractions. The subterm
+    // that starts at node i has to end at `end`. The array has in front where the abstractions end,
+    // and from `top` on where the right parts to come have to end, the next first, and then a 0:
+    // nothing is left. The two do not meet, as each node adds one at most.
+    let mut top = ends.len() - 1;
+    ends[top] = 0;
     let mut end = n;
     let mut seen = 0;
     let mut i = 0;
@@ -65,7 +65,7 @@ pub fn test_nodes(file: &[u8], n: usize, f: usize, due: &mut [u16], ends: &mut [
                 if !visible(argument, f, at, ends, seen) {
                     return Tested::Failed;
                 }
-                end = due[top] as usize;
+                end = ends[top] as usize;
                 top += 1;
             }
             1 => {
@@ -81,7 +81,7 @@ pub fn test_nodes(file: &[u8], n: usize, f: usize, due: &mut [u16], ends: &mut [
                     return Tested::Failed;
                 }
                 top -= 1;
-                due[top] = end as u16;
+                ends[top] = end as u16;
                 end = left;
             }
             _ => {

@@ -82,23 +82,17 @@ returns-5 c =
 slice-aggregate-check-nodes : tie.Need-slice-aggregate-check-nodes
 slice-aggregate-check-nodes c = search needs
 
-slice-aggregate-check-nodes-2 : tie.Need-slice-aggregate-check-nodes-2
-slice-aggregate-check-nodes-2 c = search needs
-
 check-nodes-requires : tie.Need-check-nodes-requires
-check-nodes-requires c κs = (headed (c .before .before .before), (search needs, search needs))
+check-nodes-requires c κs = (headed (c .before .before), search needs)
 
 returns-6 : tie.Need-returns-6
 returns-6 c = search needs
 
-slice-aggregate-check-nodes-3 : tie.Need-slice-aggregate-check-nodes-3
-slice-aggregate-check-nodes-3 c = search needs
-
-slice-aggregate-check-nodes-4 : tie.Need-slice-aggregate-check-nodes-4
-slice-aggregate-check-nodes-4 c = search needs
+slice-aggregate-check-nodes-2 : tie.Need-slice-aggregate-check-nodes-2
+slice-aggregate-check-nodes-2 c = search needs
 
 check-nodes-requires-2 : tie.Need-check-nodes-requires-2
-check-nodes-requires-2 c κs = (headed (c .before .before .before), (search needs, search needs))
+check-nodes-requires-2 c κs = (headed (c .before .before), search needs)
 
 returns-7 : tie.Need-returns-7
 returns-7 c = search needs
@@ -119,10 +113,8 @@ check-spec =
     cast-if5-2
     returns-5
     slice-aggregate-check-nodes
-    slice-aggregate-check-nodes-2
     check-nodes-requires
     returns-6
-    slice-aggregate-check-nodes-3
-    slice-aggregate-check-nodes-4
+    slice-aggregate-check-nodes-2
     check-nodes-requires-2
     returns-7)

@@ -19,36 +19,30 @@ enum-told c = search needs
 
 first-refusal-requires : tie.Need-first-refusal-requires
 first-refusal-requires c κs =
-    let start = c .before .before .before .before .before .before .before .before .before .before .before .before .before in
-    let pass = c .before .before .before .before .before .before .before .test-nodes in
+    let start = c .before .before .before .before .before .before .before .before .before in
+    let pass = c .before .before .before .before .before .test-nodes in
     (start .pre .0, (search needs, sym (pass .ensures) ∙ c .before .enum-told .given .1))
 
 same-length : tie.Need-same-length
 same-length c = search needs
-
-same-length-2 : tie.Need-same-length-2
-same-length-2 c = search needs
 
 returns : tie.Need-returns
 returns c = rw (c .before .before .first-refusal .ensures)
 
 counted-requires : tie.Need-counted-requires
 counted-requires c κs =
-    let start = c .before .before .before .before .before .before .before .before .before .before .before .before .before in
-    let pass = c .before .before .before .before .before .before .before .test-nodes in
+    let start = c .before .before .before .before .before .before .before .before .before in
+    let pass = c .before .before .before .before .before .test-nodes in
     let seen = c .before .seen in
     (start .pre .0 .framed .most, passed-few (start .pre .0) (seen .given .0 .0) (sym (seen .given .1) ∙ pass .ensures))
 
-same-length-3 : tie.Need-same-length-3
-same-length-3 c = search needs
-
-same-length-4 : tie.Need-same-length-4
-same-length-4 c = search needs
+same-length-2 : tie.Need-same-length-2
+same-length-2 c = search needs
 
 returns-2 : tie.Need-returns-2
 returns-2 c =
-    let start = c .before .before .before .before .before .before .before .before .before .before .before .before .before .before in
-    let pass = c .before .before .before .before .before .before .before .before .test-nodes in
+    let start = c .before .before .before .before .before .before .before .before .before .before in
+    let pass = c .before .before .before .before .before .before .test-nodes in
     let seen = c .before .before .seen in
     let found = sym (seen .given .1) ∙ pass .ensures in
     rw (passed-accepted (start .pre .0) (seen .given .0 .0) found)
@@ -63,9 +57,7 @@ check-nodes-spec =
     enum-told
     first-refusal-requires
     same-length
-    same-length-2
     returns
     counted-requires
-    same-length-3
-    same-length-4
+    same-length-2
     returns-2)
