@@ -88,9 +88,11 @@ const MAX_FREE: usize = 16384;
 
 const MAX_NODES: usize = 16384;
 
-// The most nodes of a file that is checked in a small array: to zero the large one takes longer than all
-// else that a small file asks for.
-const SMALL: usize = 256;
+// The most nodes of a file that is checked in a small array, and in one of middle size: to zero a larger
+// one takes longer than all else that such a file asks for.
+const SMALL: usize = 64;
+
+const MIDDLE: usize = 1024;
 
 // Whether a byte string is a term file: its counts, or the first of the seven refusals that it
 // meets. The answer is an equation with its definition, for every byte string; only an array of the
@@ -123,6 +125,10 @@ pub fn check(file: &[u8]) -> Checked
     }
     if n <= SMALL {
         let mut ends = [0u16; SMALL + 1];
+        return check_nodes(file, n, f, &mut ends);
+    }
+    if n <= MIDDLE {
+        let mut ends = [0u16; MIDDLE + 1];
         return check_nodes(file, n, f, &mut ends);
     }
     let mut ends = [0u16; MAX_NODES + 1];

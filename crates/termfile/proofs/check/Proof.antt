@@ -92,10 +92,19 @@ slice-aggregate-check-nodes-2 : tie.Need-slice-aggregate-check-nodes-2
 slice-aggregate-check-nodes-2 c = search needs
 
 check-nodes-requires-2 : tie.Need-check-nodes-requires-2
-check-nodes-requires-2 c κs = (headed (c .before .before), search needs)
+check-nodes-requires-2 c κs = (headed (c .before .before .before), search needs)
 
 returns-7 : tie.Need-returns-7
 returns-7 c = search needs
+
+slice-aggregate-check-nodes-3 : tie.Need-slice-aggregate-check-nodes-3
+slice-aggregate-check-nodes-3 c = search needs
+
+check-nodes-requires-3 : tie.Need-check-nodes-requires-3
+check-nodes-requires-3 c κs = (headed (c .before .before .before), search needs)
+
+returns-8 : tie.Need-returns-8
+returns-8 c = search needs
 
 pub check-spec : {M : Type 1} → statement M
 check-spec =
@@ -117,4 +126,7 @@ check-spec =
     returns-6
     slice-aggregate-check-nodes-2
     check-nodes-requires-2
-    returns-7)
+    returns-7
+    slice-aggregate-check-nodes-3
+    check-nodes-requires-3
+    returns-8)
