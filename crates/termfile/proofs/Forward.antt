@@ -104,7 +104,8 @@ record Shape (ns : List Node) (p : ℕ) (due : List ℕ) : Type 0 where
   whole : forest ns ≡ some codes
   close : due ≡ closings p codes
 
-failed-passed : {k : ℕ} → Failed ≡ Passed k → ⊥
+-- to fail is not to pass
+pub failed-passed : {k : ℕ} → Failed ≡ Passed k → ⊥
 failed-passed e = let z : _≡_ {A = ℕ} 0 1 = cc in omega arith
 
 cond-passed : (b : Bool) (r : Tested) (k : ℕ) → cond b r Failed ≡ Passed k → (b ≡ true) × (r ≡ Passed k)

@@ -14,22 +14,20 @@ use Rattle.termfile.specs.declared.pass.Tested.the-variants.{Passed, Fai
 use Rattle.termfile.proofs.Bytes.{tags-nodes}
 use Rattle.termfile.proofs.Frame.{exact}
 use Rattle.termfile.proofs.Reading.{read-is, known-write, size-counts, variables-applications}
+use Rattle.termfile.proofs.Forward.{failed-passed}
 use Rattle.termfile.proofs.Acceptance.{Accepted, accepted-back, size-code, count-code}
-
-passed-failed : {k : ℕ} → Passed k ≡ Failed → ⊥
-passed-failed e = let z : _≡_ {A = ℕ} 0 1 = cc in omega arith
 
 -- the code of a file that passes
 passed-code : (f k : ℕ) (o : Option Code) → Passed k ≡ tested f o
     → (c : Code) × (o ≡ some c) × (numbered f c ≡ true) × (scoped f [] c ≡ true) × (k ≡ abstractions c)
-passed-code f k none e = absurd (passed-failed e)
+passed-code f k none e = absurd (failed-passed (sym e))
 passed-code f k (some c) e = go (numbered f c) (scoped f [] c) refl refl e
   where
     go : (a b : Bool) → numbered f c ≡ a → scoped f [] c ≡ b → Passed k ≡ cond (a && b) (Passed (abstractions c)) Failed
         → (d : Code) × (some c ≡ some d) × (numbered f d ≡ true) × (scoped f [] d ≡ true) × (k ≡ abstractions d)
     go true true p q r = (c, refl, p, q, cc)
-    go true false p q r = absurd (passed-failed r)
-    go false b p q r = absurd (passed-failed r)
+    go true false p q r = absurd (failed-passed (sym r))
+    go false b p q r = absurd (failed-passed (sym r))
 
 counts-fields : (s : List ℕ) {f n l v a : ℕ} → f ≡ freeNames s → n ≡ nodeCount s → l ≡ count 1 (tags s) → v ≡ count 0 (tags s)
     → a ≡ count 2 (tags s) → record { free = f; nodes = n; abstractions = l; variables = v; applications = a } ≡ counts s
@@ -81,5 +79,5 @@ failed-scope f none e h = refl
 failed-scope f (some c) e h = go (scoped f [] c) (rw h at e)
   where
     go : (b : Bool) → cond b (Passed (abstractions c)) Failed ≡ Failed → b ≡ false
-    go true p = absurd (passed-failed p)
+    go true p = absurd (failed-passed (sym p))
     go false p = refl

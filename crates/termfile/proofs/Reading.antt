@@ -102,7 +102,7 @@ variables-applications (abs x c) = omega (arith, variables-applications c)
 variables-applications (app c d) = omega (arith, variables-applications c, variables-applications d)
 
 -- a code has no more nodes of one tag than nodes
-only-le : (k t : ℕ) → only k t ≤ 1
+pub only-le : (k t : ℕ) → only k t ≤ 1
 only-le k t = go (eqb t k)
   where
     go : (q : Bool) → cond q 1 0 ≤ 1

@@ -89,7 +89,7 @@ const MAX_FREE: usize = 16384;
 const MAX_NODES: usize = 16384;
 
 // The most nodes of a file that is checked in a small array, and in one of middle size: to zero a larger
-// one takes longer than all else that such a file asks for.
+// one takes long beside all else that such a file asks for.
 const SMALL: usize = 64;
 
 const MIDDLE: usize = 1024;

@@ -93,16 +93,24 @@ fn changed(name: &[u8], i: usize, tag: u8, argument: usize, length: usize) {
     report::line(name, &file, length);
 }
 
-// Files of about 256 nodes, the most for which `check` takes small arrays.
+// Files of about 64 and about 1,024 nodes, the most for which `check` takes its small and its middle array.
 fn middling() {
-    nest(b"0 255 abstractions", Nest::Abstractions, 0, 256);
-    nest(b"0 256 abstractions", Nest::Abstractions, 0, 257);
-    nest(b"0 left parts, 256 nodes", Nest::Left, 0, 256);
-    nest(b"0 left parts, 257 nodes", Nest::Left, 1, 257);
-    nest(b"0 right parts, 256 nodes", Nest::Right, 0, 256);
-    nest(b"0 right parts, 257 nodes", Nest::Right, 1, 257);
-    nest(b"5 left parts, one missing of 257", Nest::Left, 1, 256);
-    nest(b"5 right parts, one missing of 259", Nest::Right, 1, 258);
+    nest(b"0 63 abstractions", Nest::Abstractions, 0, 64);
+    nest(b"0 64 abstractions", Nest::Abstractions, 0, 65);
+    nest(b"0 left parts, 64 nodes", Nest::Left, 0, 64);
+    nest(b"0 left parts, 65 nodes", Nest::Left, 1, 65);
+    nest(b"0 right parts, 64 nodes", Nest::Right, 0, 64);
+    nest(b"0 right parts, 65 nodes", Nest::Right, 1, 65);
+    nest(b"5 left parts, one missing of 65", Nest::Left, 1, 64);
+    nest(b"5 right parts, one missing of 67", Nest::Right, 1, 66);
+    nest(b"0 1023 abstractions", Nest::Abstractions, 0, 1024);
+    nest(b"0 1024 abstractions", Nest::Abstractions, 0, 1025);
+    nest(b"0 left parts, 1024 nodes", Nest::Left, 0, 1024);
+    nest(b"0 left parts, 1025 nodes", Nest::Left, 1, 1025);
+    nest(b"0 right parts, 1024 nodes", Nest::Right, 0, 1024);
+    nest(b"0 right parts, 1025 nodes", Nest::Right, 1, 1025);
+    nest(b"5 left parts, one missing of 1025", Nest::Left, 1, 1024);
+    nest(b"5 right parts, one missing of 1027", Nest::Right, 1, 1026);
 }
 
 // The largest files, one that is larger, and some with a defect.
