@@ -89,7 +89,7 @@ enum glow_tag { GLOW_VARIABLE = 0, GLOW_ABSTRACTION = 1, GLOW_APPLICATION = 2 };
    glow_evaluate_with takes at most GLOW_STACK_NEEDED(nodes, nodes). Before a result is counted any call takes up to
    GLOW_STACK_FOR_A_CALL, which is free again then. On a thread with less a term that is nested deeply enough
    overflows the stack, which ends the process. */
-#define GLOW_STACK_FOR_A_CALL 139264
+#define GLOW_STACK_FOR_A_CALL 106496
 #define GLOW_STACK_FOR_A_RESULT 69632
 #define GLOW_STACK_FOR_A_LEVEL 480
 #define GLOW_LESS(a, b) ((size_t)(a) < (size_t)(b) ? (size_t)(a) : (size_t)(b))

@@ -39,7 +39,7 @@ use std::ops::Range;
 
 /// Bytes of stack that an evaluation takes whatever the stores are: for arrays of its own and of the checks of the file and of the
 /// definitions, and the C library where it binds a name at its first use.
-pub const STACK_FOR_A_CALL: usize = 139_264;
+pub const STACK_FOR_A_CALL: usize = 106_496;
 
 /// Bytes of stack that an evaluation takes while it counts and writes a result, with the first level. The checks are over then,
 /// and what they took is free again.
