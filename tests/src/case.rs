@@ -11,12 +11,15 @@ pub struct Case<'a> {
     pub file: &'a [u8],
     pub budget: u32,
     pub lengths: Lengths,
-    /// what the stores hold before: 0 zeros, 1 all ones, 2 small numbers, else random from this seed
+    /// what the stores hold before: 0 zeros, 1 all ones, 2 small numbers, `ONES` all ones, in the output too, else random from this seed
     pub garbage: u64,
     pub report_len: usize,
     /// whether an array of length 0 is lent by a null pointer, as C programs do
     pub nulls: bool,
 }
+
+/// For `Case::garbage`.
+pub const ONES: u64 = u64::MAX;
 
 impl<'a> Case<'a> {
     pub fn new(rules: Rules, file: &'a [u8], budget: u32, lengths: Lengths) -> Case<'a> { Case { rules, prelude: None, file, budget, lengths, garbage: 7, report_len: 12, nulls: false } }
@@ -247,9 +250,9 @@ mod library {
     impl Arrays {
         fn of(case: &Case) -> Arrays {
             let mut r = Prng(case.garbage);
-            let (l, g) = (&case.lengths, case.garbage);
-            // the output is told from what is written by random contents, unless zeros are asked for
-            let out = if g == 0 { 0 } else { 9 };
+            let l = &case.lengths;
+            // the output is told from what is written by random contents, unless zeros or ones are asked for
+            let (g, out) = match case.garbage { 0 => (0, 0), ONES => (1, 1), g => (g, 9) };
             Arrays {
                 tags: Lent::new("tags", l.tags, g, &mut r), args: Lent::new("args", l.args, g, &mut r),
                 codes: Lent::new("codes", l.codes, g, &mut r), owns: Lent::new("owns", l.owns, g, &mut r), nexts: Lent::new("nexts", l.nexts, g, &mut r),
