@@ -1,5 +1,5 @@
 pub mod LastState
-pub mod Values
+pub mod Counts
 pub mod Finishing
 pub mod Calls
 pub mod Promises
