@@ -1,4 +1,5 @@
 pub mod LastState
+pub mod Packing
 pub mod Counts
 pub mod Finishing
 pub mod Calls

@@ -1,3 +1,4 @@
 pub mod Calling
+pub mod Cursor
 pub mod Final
 pub mod Promise
