@@ -1,6 +1,6 @@
 pub mod LastState
 pub mod Packing
-pub mod Counts
+pub mod Values
 pub mod Finishing
 pub mod Calls
 pub mod Promises
