@@ -5,7 +5,8 @@
 //! The library counts a result before it writes it. Both walk over codes and along chains of names in loops, and call
 //! themselves where a name has an entry to be unfolded, or an item has a stack of its own and is not the last of its
 //! stack. Counting counts the definitions first, oldest first, and then calls itself for none of them. Writing does not
-//! call itself where a name is the last node of a code and its entry's item is an abstraction, as a definition is.
+//! call itself where a name is the last node of a code and its entry's item is an abstraction, as a definition is, but
+//! where that is written already: a call copies it then, and makes no other.
 //!
 //! With each call a number falls that starts at the cells and names taken, and it is proved that it does not fall below 0.
 //! The two bounds that are told are closer. They are argued here, and tested, but not proved: without definitions there are
@@ -24,7 +25,9 @@
 //! - a definition's name inside an abstraction: the abstraction, an application, the name, and a node behind the name;
 //! - a name with a stack that is not empty: the same enter and beta, and of the stack's first cell the enter and the first node;
 //! - a name alone as an item of a stack: the same enter and beta, the enter of the item's cell, and the name;
-//! - an item with a stack of its own, not the last of its stack: of its cell and of the next one the enter and the first node.
+//! - an item with a stack of its own, not the last of its stack: of its cell and of the next one the enter and the first node;
+//! - a name that is written already: the name, the nodes of what is copied, which no call around it is in, and the enter of its
+//!   entry's cell and the beta, or for a definition the abstraction around the name or the enter of the item's cell.
 //!
 //! Only a name that is the whole result has three, and the deepest call has one more that is not in the list.
 //!
