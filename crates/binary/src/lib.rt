@@ -1,5 +1,7 @@
 // Binary lambda calculus: what the bits of a term are, what import and export answer, and what the
 // partners who exchange terms as bits may rely on. The definitions are in specs/; here are the answers.
+#![tactic(auto)]
+
 ghost use Rattle.std.specs.Prelude.{◌≡◌};
 ghost use Rattle.binary.specs.Answer.{number_of};
 

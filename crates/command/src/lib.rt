@@ -1,6 +1,8 @@
 // What the program glow does: reads one term file from standard input, evaluates it, and writes the answer's lines to standard output.
 //
 // At most 49,157 bytes are read: one more than the largest term file has, so that a longer one is refused.
+#![tactic(auto)]
+
 mod reading;
 mod telling;
 

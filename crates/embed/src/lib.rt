@@ -7,6 +7,8 @@
 // At 0 to 2 the report array begins with: the refusal's number or 0, the nodes written or 0, the steps
 // beta, subst, enter, leave-fun and leave-inert, the nodes, cells and names taken, and the allowances for
 // substs and shifts. At 3 only the number is written, and at 4 and 5 nothing is touched.
+#![tactic(auto)]
+
 ghost use Rattle.std.specs.Prelude.{◌≡◌, ◌≤◌, length};
 ghost use Rattle.termfile.specs.Output.{overlay};
 ghost use Rattle.machine.specs.Answer.{nodes_written, report as reported, given, file_given};

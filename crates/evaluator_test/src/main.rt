@@ -6,6 +6,8 @@
 // number is 65536 more, another run is made first, so that the stores hold what it left. The file is x
 // and its bytes, or f and its nodes as the paper writes them, or a capital letter for a family and its
 // size (`families::node_in`). `expected.py` works `stdout` out from the paper.
+#![tactic(auto)]
+
 mod build;
 mod families;
 mod kept;

@@ -4,6 +4,8 @@
 // status: 0 the result is written at the front of `out`, 3 it is refused and `out` is as it was, 4 the
 // report array has fewer than 2 elements, and nothing is touched. The report array then begins with the
 // refusal's number or 0, and the bytes written or 0.
+#![tactic(auto)]
+
 ghost use Rattle.std.specs.Prelude.{◌≡◌, ◌≤◌, length};
 ghost use Rattle.termfile.specs.Output.{overlay};
 ghost use Rattle.binary.specs.Answer.{imported, exported, told};

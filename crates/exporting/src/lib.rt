@@ -5,6 +5,8 @@
 //
 //   1 to 7 File    the file is not a term file
 //   12 Output      the output is shorter than the packed bits
+#![tactic(auto)]
+
 mod measuring;
 mod putting;
 mod writing;

@@ -9,6 +9,8 @@
 //                    that is not below f                             } last bit
 //   15 Padding       a bit behind the term is not zero, or there is a spare byte
 //   12 Output        the output is shorter than the file
+#![tactic(auto)]
+
 mod cursor;
 mod node;
 mod padding;

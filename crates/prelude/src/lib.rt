@@ -8,6 +8,8 @@
 //   2, 4 to 7 Definition      a definition that is not a term file; the first such tells its refusal
 //   18 NotAbstraction         a definition that is not an abstraction
 //   19 Place                  a definition whose f field is not its place
+#![tactic(auto)]
+
 mod cutting;
 mod definitions;
 mod heads;

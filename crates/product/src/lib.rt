@@ -1,6 +1,8 @@
 // Products of 32-bit numbers, for machines that have no wide multiply (02, request 4). Both factors are cut
 // into pieces of 16 bits, and the products of the pieces are shifted into place and added. No product in this
 // crate has an operand or a result wider than 32 bits.
+#![tactic(auto)]
+
 ghost use Rattle.std.specs.Prelude.{◌+◌, ◌*◌, ◌≡◌};
 
 // The product of a piece and a 32-bit number. A wrong answer that the contract rules out, tried in must-fail/:

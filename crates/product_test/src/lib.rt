@@ -1,4 +1,6 @@
 // The products of `product` for the tests, which are in another language. The library has none of these functions.
+#![tactic(auto)]
+
 ghost use Rattle.std.specs.Prelude.{◌≡◌, ◌+◌, ◌*◌};
 
 #[unsafe(no_mangle)]

@@ -4,6 +4,8 @@
 // is too short it says so and writes nothing; and so it does where the answer's nodes are not in these output
 // arrays or are more than 16,384, or its sum of shifting steps needs more than 64 bits, as no call of
 // the evaluator gives such an answer.
+#![tactic(auto)]
+
 mod digits;
 mod nodes;
 mod report;

@@ -122,7 +122,7 @@ count-append k (t ∷ l) m = omega (arith, count-append k l m)
 pub count-write : (k : ℕ) (c : Code) → count k (map (λ n. n.tag) (write c)) ≡ weigh (only k) c
 count-write k (var x) = omega arith
 count-write k (abs x c) = rw (count-write k c)
-count-write k (app c d) = rw (map-append (λ n. n.tag) (write c) (write d), count-append) (rw (count-write k c, count-write k d) (omega arith))
+count-write k (app c d) = rw (map-append (λ n. n.tag) (write c) (write d), count-append k) (rw (count-write k c, count-write k d) (omega arith))
 
 known-append : (l m : List ℕ) → known (l ++ m) ≡ (known l && known m)
 known-append [] m = refl

@@ -12,6 +12,8 @@
 //               argument is not its left part's size
 //   6 Binder    an abstraction that binds another name than its place gives
 //   7 Variable  a variable that is neither free nor bound by an abstraction around it
+#![tactic(auto)]
+
 mod binders;
 mod layout;
 mod pass;

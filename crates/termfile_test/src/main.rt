@@ -4,6 +4,8 @@
 // accepted; its name; and after a colon the file, either x and its bytes, or f and its nodes as the
 // paper writes them, where beyond the paper's letters x stands for the tag 3 and z for the tag 255.
 // The large files are made here. `expected.py` works `stdout` out from the paper.
+#![tactic(auto)]
+
 mod build;
 mod report;
 

@@ -9,7 +9,7 @@ use Rattle.product.proofs.allowance.Tie as tie
 product-requires : tie.Need-product-requires
 product-requires c κs = tt
 
-add-result : tie.Need-overflow-add-result
+add-result : tie.Need-overflow_add-result
 add-result c =
     let g = c.before in
     omega (arith, c.product.ensures, mul-le-mul_right g.args.count g.ranges.b.fits, g.ranges.count.fits)
@@ -17,5 +17,5 @@ add-result c =
 returns : tie.Need-returns
 returns c = search rules
 
-pub allowance-spec : {M : Type 1} → statement M
-allowance-spec = tie.close (tie.spec product-requires add-result returns)
+pub allowance_spec : {M : Type 1} → statement M
+allowance_spec = tie.close (tie.spec product-requires add-result returns)

@@ -6,10 +6,10 @@ use native.Mathlib.Omega.{arith}
 use Rattle.termfile.proofs.layout.tag_of.Statement.{statement}
 use Rattle.termfile.proofs.layout.tag_of.Tie as tie
 
-add-result : tie.Need-overflow-add-result
+add-result : tie.Need-overflow_add-result
 add-result c = omega arith
 
-shared-slice-read-result : tie.Need-shared-slice-read-result
+shared-slice-read-result : tie.Need-bounds-file-i
 shared-slice-read-result c = omega arith
 
 returns : tie.Need-returns
@@ -17,5 +17,5 @@ returns c =
     let s = c.before in
     sym (tag_at s.args.file.now s.requires.0.count (exact s.requires.0) s.args.i s.requires.1)
 
-pub tag-of-spec : {M : Type 1} → statement M
-tag-of-spec = tie.close (tie.spec add-result shared-slice-read-result returns)
+pub tag_of_spec : {M : Type 1} → statement M
+tag_of_spec = tie.close (tie.spec add-result shared-slice-read-result returns)
