@@ -49,47 +49,47 @@ module _ {p : List ℕ} {d at k : ℕ} (asks : Asks p d at k) where
       let none_left : d - k ≡ 0 = omega arith in
       cut-end p at asks.inside ∙ sym (asks.same ∙ ap (λ m. are_cut (cut m (drop at p))) none_left)
 
-abbrev invariant-loop : tie.invariant-loop
+abbrev invariant-loop : tie.invariant-loop-k
 invariant-loop prelude d at₀ k₀ at k = Asks prelude d at k
 
-abbrev decreases-loop : tie.decreases-loop
+abbrev decreases-loop : tie.decreases-loop-k
 decreases-loop prelude d at₀ k₀ at k = d - k
 
-loop-holds : tie.Need-loop-init invariant-loop decreases-loop
+loop-holds : tie.Need-loop-k-init invariant-loop decreases-loop
 loop-holds c = begin c.before.requires.0 c.before.requires.1
 
-add-k : tie.Need-overflow-add-k invariant-loop decreases-loop
+add-k : tie.Need-overflow_add-k invariant-loop decreases-loop
 add-k c = omega arith
 
-sub-left : tie.Need-overflow-sub-left invariant-loop decreases-loop
+sub-left : tie.Need-overflow_sub-left invariant-loop decreases-loop
 sub-left c = omega arith
 
-returns : tie.Need-returns invariant-loop decreases-loop
-returns c = missing c.before.before.loop.invariant c.before.loop-test.true (omega arith)
+returns : tie.Need-returns-then-left-lt4 invariant-loop decreases-loop
+returns c = missing c.before.before.loop-k.invariant c.before.loop-k-test.true (omega arith)
 
-file-length-requires : tie.Need-file-length-requires invariant-loop decreases-loop
+file-length-requires : tie.Need-file_length-length-requires invariant-loop decreases-loop
 file-length-requires c κs = omega arith
 
-returns-2 : tie.Need-returns-2 invariant-loop decreases-loop
+returns-2 : tie.Need-returns-then-left-length invariant-loop decreases-loop
 returns-2 c =
-    missing c.before.before.before.before.loop.invariant c.before.before.before.loop-test.true (omega (arith, c.before.file-length.ensures))
+    missing c.before.before.before.before.loop-k.invariant c.before.before.before.loop-k-test.true (omega (arith, c.before.file_length-length.ensures))
 
-add_at : tie.Need-overflow-add-at invariant-loop decreases-loop
+add_at : tie.Need-overflow_add-at invariant-loop decreases-loop
 add_at c = omega arith
 
-loop-less : tie.Need-loop-smaller invariant-loop decreases-loop
+loop-less : tie.Need-loop-k-smaller invariant-loop decreases-loop
 loop-less c = omega arith
 
-loop-again : tie.Need-loop-preserved invariant-loop decreases-loop
+loop-again : tie.Need-loop-k-preserved invariant-loop decreases-loop
 loop-again c =
-    let call = c.before.file-length in
-    next c.before.before.before.before.loop.invariant call.result call.ensures c.before.before.before.loop-test.true c.if2.false
+    let call = c.before.file_length-length in
+    next c.before.before.before.before.loop-k.invariant call.result call.ensures c.before.before.before.loop-k-test.true c.if-left-length.false
 
-returns-3 : tie.Need-returns-3 invariant-loop decreases-loop
-returns-3 c = ended c.before.loop.invariant c.loop-test.false
+returns-3 : tie.Need-returns invariant-loop decreases-loop
+returns-3 c = ended c.before.loop-k.invariant c.loop-k-test.false
 
-pub is-cut-spec : {M : Type 1} → statement M
-is-cut-spec =
+pub is_cut_spec : {M : Type 1} → statement M
+is_cut_spec =
     tie.close
     (tie.spec
     invariant-loop

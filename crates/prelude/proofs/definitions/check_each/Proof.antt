@@ -91,15 +91,15 @@ module _ {p : List ℕ} {d at k nodes abstractions variables applications : ℕ}
         let many : d ≡ length (definition_files p) = omega (arith, cut-length (d - 0) (drop 2 p) (definition_files p) (left-begin cut).are) in
         rw (many, all-added asks.nodes_added, all-added asks.abstractions_added, all-added asks.variables_added, all-added asks.applications_added)
 
-abbrev invariant-loop : tie.invariant-loop
+abbrev invariant-loop : tie.invariant-loop-k
 invariant-loop prelude d nodes₀ abstractions₀ variables₀ applications₀ at₀ k₀ nodes abstractions variables applications at k =
     Asks prelude d at k nodes abstractions variables applications
 
-abbrev decreases-loop : tie.decreases-loop
+abbrev decreases-loop : tie.decreases-loop-k
 decreases-loop prelude d nodes₀ abstractions₀ variables₀ applications₀ at₀ k₀ nodes abstractions variables applications at k =
     d - k
 
-loop-holds : tie.Need-loop-init invariant-loop decreases-loop
+loop-holds : tie.Need-loop-k-init invariant-loop decreases-loop
 loop-holds c =
     let start = c.before in
     let none-added : (w : List ℕ → ℕ) → Added w start.args.prelude.now 0 (definition_files start.args.prelude.now) 0 = λ w. record { whole = omega arith; few = omega arith } in
@@ -115,87 +115,86 @@ loop-holds c =
     }
 
 -- behind the check of a definition that is accepted
-reached : (c : tie.After-counts invariant-loop decreases-loop)
-    → let loop = c.before.before.before.before.before.before.loop in
-    let start = c.before.before.before.before.before.before.before.before in
-    let m = c.counts.given.0.0 in
-    Asks start.args.prelude.now start.args.d (loop.at + c.before.before.before.before.file-length.result) (loop.k + 1)
+reached : (c : tie.In-Accepted invariant-loop decreases-loop)
+    → let loop = c.before.before.before.before.before.loop-k in
+    let start = c.before.before.before.before.before.before.before in
+    let m = c.in-Accepted.counts in
+    Asks start.args.prelude.now start.args.d (loop.at + c.before.before.before.file_length.result) (loop.k + 1)
     (loop.nodes + m.nodes) (loop.abstractions + m.abstractions) (loop.variables + m.variables) (loop.applications + m.applications)
 reached c =
-    let loop = c.before.before.before.before.before.before.loop in
-    let call = c.before.before.before.before.file-length in
-    next loop.invariant c.before.before.before.before.before.loop-test.true call.result call.ensures c.counts.given.0.0
-    (sym (ap termfile.told c.counts.given.1) ∙ c.before.before.check.ensures)
+    let loop = c.before.before.before.before.before.loop-k in
+    let call = c.before.before.before.file_length in
+    next loop.invariant c.before.before.before.before.loop-k-test.true call.result call.ensures c.in-Accepted.counts
+    (sym (ap termfile.told c.in-Accepted.is) ∙ c.before.check.ensures)
 
-add-k : tie.Need-overflow-add-k invariant-loop decreases-loop
+add-k : tie.Need-overflow_add-k invariant-loop decreases-loop
 add-k c = omega arith
 
-file-length-requires : tie.Need-file-length-requires invariant-loop decreases-loop
-file-length-requires c κs = omega (arith, (left-next c.before.loop.invariant.left c.loop-test.true).end)
+file-length-requires : tie.Need-file_length-requires invariant-loop decreases-loop
+file-length-requires c κs = omega (arith, (left-next c.before.loop-k.invariant.left c.loop-k-test.true).end)
 
-add_at : tie.Need-overflow-add-at invariant-loop decreases-loop
-add_at c = omega (arith, (left-next c.before.before.loop.invariant.left c.before.loop-test.true).end, c.file-length.ensures)
+add_at : tie.Need-overflow_add-at invariant-loop decreases-loop
+add_at c = omega (arith, (left-next c.before.before.loop-k.invariant.left c.before.loop-k-test.true).end, c.file_length.ensures)
 
-sub-check : tie.Need-overflow-sub-check invariant-loop decreases-loop
+sub-check : tie.Need-slice_bounds-check-count invariant-loop decreases-loop
 sub-check c = omega arith
 
-part-check-start : tie.Need-slice-bounds-check-start invariant-loop decreases-loop
+part-check-start : tie.Need-slice_bounds-check-start invariant-loop decreases-loop
 part-check-start c = omega arith
 
-part-check-end : tie.Need-slice-bounds-check-end invariant-loop decreases-loop
-part-check-end c = omega (arith, (left-next c.before.before.loop.invariant.left c.before.loop-test.true).end, c.file-length.ensures)
+part-check-end : tie.Need-slice_bounds-check-end invariant-loop decreases-loop
+part-check-end c = omega (arith, (left-next c.before.before.loop-k.invariant.left c.before.loop-k-test.true).end, c.file_length.ensures)
 
 check-requires : tie.Need-check-requires invariant-loop decreases-loop
 check-requires c κs = search rules
 
-enum-known-why : tie.Need-enum-known-why invariant-loop decreases-loop
+enum-known-why : tie.Need-enum_known-why invariant-loop decreases-loop
 enum-known-why c = search rules
 
-returns : tie.Need-returns invariant-loop decreases-loop
+returns : tie.Need-returns-in-Refused invariant-loop decreases-loop
 returns c =
-    let loop = c.before.before.before.before.before.before.before.loop in
-    let call = c.before.before.before.before.before.file-length in
-    let why = c.before.why.given in
-    rw (refused loop.invariant c.before.before.before.before.before.before.loop-test.true call.result call.ensures _
-    (sym (ap termfile.told why.1) ∙ c.before.before.before.check.ensures))
+    let loop = c.before.before.before.before.before.loop-k in
+    let call = c.before.before.before.file_length in
+    rw (refused loop.invariant c.before.before.before.before.loop-k-test.true call.result call.ensures _
+    (sym (ap termfile.told c.in-Refused.is) ∙ c.before.check.ensures))
 
-enum-known-counts : tie.Need-enum-known-counts invariant-loop decreases-loop
+enum-known-counts : tie.Need-enum_known-counts invariant-loop decreases-loop
 enum-known-counts c = search rules
 
-add-nodes : tie.Need-overflow-add-nodes invariant-loop decreases-loop
+add-nodes : tie.Need-overflow_add-nodes invariant-loop decreases-loop
 add-nodes c =
-    let at = reached c.before.before in
+    let at = reached c.before in
     omega (arith, at.nodes_added.few, at.left.few, at.few)
 
-add-abstractions : tie.Need-overflow-add-abstractions invariant-loop decreases-loop
+add-abstractions : tie.Need-overflow_add-abstractions invariant-loop decreases-loop
 add-abstractions c =
-    let at = reached c.before.before.before in
+    let at = reached c.before.before in
     omega (arith, at.abstractions_added.few, at.left.few, at.few)
 
-add-variables : tie.Need-overflow-add-variables invariant-loop decreases-loop
+add-variables : tie.Need-overflow_add-variables invariant-loop decreases-loop
 add-variables c =
-    let at = reached c.before.before.before.before in
+    let at = reached c.before.before.before in
     omega (arith, at.variables_added.few, at.left.few, at.few)
 
-add-applications : tie.Need-overflow-add-applications invariant-loop decreases-loop
+add-applications : tie.Need-overflow_add-applications invariant-loop decreases-loop
 add-applications c =
-    let at = reached c.before.before.before.before.before in
+    let at = reached c.before.before.before.before in
     omega (arith, at.applications_added.few, at.left.few, at.few)
 
-loop-less : tie.Need-loop-smaller invariant-loop decreases-loop
+loop-less : tie.Need-loop-k-smaller invariant-loop decreases-loop
 loop-less c = omega arith
 
-loop-again : tie.Need-loop-preserved invariant-loop decreases-loop
-loop-again c = reached c.before.before.before.before.before
+loop-again : tie.Need-loop-k-preserved invariant-loop decreases-loop
+loop-again c = reached c.before.before.before.before
 
-returns-2 : tie.Need-returns-2 invariant-loop decreases-loop
+returns-2 : tie.Need-returns invariant-loop decreases-loop
 returns-2 c =
-    let loop = c.before.loop in
+    let loop = c.before.loop-k in
     let pre = c.before.before.before.requires in
-    rw (none_refused loop.invariant c.loop-test.false pre, are-sums loop.invariant c.loop-test.false pre)
+    rw (none_refused loop.invariant c.loop-k-test.false pre, are-sums loop.invariant c.loop-k-test.false pre)
 
-pub check-each-spec : {M : Type 1} → statement M
-check-each-spec =
+pub check_each_spec : {M : Type 1} → statement M
+check_each_spec =
     tie.close
     (tie.spec
     invariant-loop

@@ -60,52 +60,52 @@ module _ {p : List ℕ} {d at k : ℕ} (asks : Asks p d at k) (h : k < d) where
 ended : {p : List ℕ} {d at k : ℕ} → Asks p d at k → d ≤ k → true ≡ all_abstractions (definition_files p)
 ended asks h = sym (asks.same ∙ ap all_abstractions (left_end asks.left h))
 
-abbrev invariant-loop : tie.invariant-loop
+abbrev invariant-loop : tie.invariant-loop-k
 invariant-loop prelude d at₀ k₀ at k = Asks prelude d at k
 
-abbrev decreases-loop : tie.decreases-loop
+abbrev decreases-loop : tie.decreases-loop-k
 decreases-loop prelude d at₀ k₀ at k = d - k
 
-loop-holds : tie.Need-loop-init invariant-loop decreases-loop
+loop-holds : tie.Need-loop-k-init invariant-loop decreases-loop
 loop-holds c = begin c.before.requires.0 c.before.requires.1
 
-add-k : tie.Need-overflow-add-k invariant-loop decreases-loop
+add-k : tie.Need-overflow_add-k invariant-loop decreases-loop
 add-k c = omega arith
 
-add-if1 : tie.Need-overflow-add-if1 invariant-loop decreases-loop
-add-if1 c = omega (arith, enough c.before.loop.invariant c.loop-test.true)
+add-if1 : tie.Need-overflow_add-at invariant-loop decreases-loop
+add-if1 c = omega (arith, enough c.before.loop-k.invariant c.loop-k-test.true)
 
-shared-slice-read-if1 : tie.Need-shared-slice-read-if1 invariant-loop decreases-loop
-shared-slice-read-if1 c = enough c.before.before.loop.invariant c.before.loop-test.true
+shared-slice-read-if1 : tie.Need-bounds-prelude-at invariant-loop decreases-loop
+shared-slice-read-if1 c = enough c.before.before.loop-k.invariant c.before.loop-k-test.true
 
-returns : tie.Need-returns invariant-loop decreases-loop
+returns : tie.Need-returns-then-prelude-at-ne1 invariant-loop decreases-loop
 returns c =
     let at = c.before.before in
-    another at.before.loop.invariant at.loop-test.true c.if1.true
+    another at.before.loop-k.invariant at.loop-k-test.true c.if-prelude-at-ne1.true
 
-file-length-requires : tie.Need-file-length-requires invariant-loop decreases-loop
+file-length-requires : tie.Need-file_length-at-requires invariant-loop decreases-loop
 file-length-requires c κs =
     let at = c.before.before in
-    omega (arith, enough at.before.loop.invariant at.loop-test.true)
+    omega (arith, enough at.before.loop-k.invariant at.loop-k-test.true)
 
-add_at : tie.Need-overflow-add-at invariant-loop decreases-loop
+add_at : tie.Need-overflow_add-at-in-loop-k invariant-loop decreases-loop
 add_at c =
     let at = c.before.before.before in
-    omega (arith, (following at.before.loop.invariant at.loop-test.true).end, c.file-length.ensures)
+    omega (arith, (following at.before.loop-k.invariant at.loop-k-test.true).end, c.file_length-at.ensures)
 
-loop-less : tie.Need-loop-smaller invariant-loop decreases-loop
+loop-less : tie.Need-loop-k-smaller invariant-loop decreases-loop
 loop-less c = omega arith
 
-loop-again : tie.Need-loop-preserved invariant-loop decreases-loop
+loop-again : tie.Need-loop-k-preserved invariant-loop decreases-loop
 loop-again c =
     let at = c.before.before.before in
-    next at.before.loop.invariant at.loop-test.true c.before.if1.false c.file-length.result c.file-length.ensures
+    next at.before.loop-k.invariant at.loop-k-test.true c.before.if-prelude-at-ne1.false c.file_length-at.result c.file_length-at.ensures
 
-returns-2 : tie.Need-returns-2 invariant-loop decreases-loop
-returns-2 c = ended c.before.loop.invariant c.loop-test.false
+returns-2 : tie.Need-returns invariant-loop decreases-loop
+returns-2 c = ended c.before.loop-k.invariant c.loop-k-test.false
 
-pub all-abstractions-spec : {M : Type 1} → statement M
-all-abstractions-spec =
+pub all_abstractions_spec : {M : Type 1} → statement M
+all_abstractions_spec =
     tie.close
     (tie.spec
     invariant-loop

@@ -54,59 +54,59 @@ module _ {p : List ℕ} {d at k : ℕ} (asks : Asks p d at k) (h : k < d) where
 ended : {p : List ℕ} {d at k : ℕ} → Asks p d at k → d ≤ k → true ≡ in_place 0 (definition_files p)
 ended {k = k} asks h = sym (asks.same ∙ ap (in_place k) (left_end asks.left h))
 
-abbrev invariant-loop : tie.invariant-loop
+abbrev invariant-loop : tie.invariant-loop-k
 invariant-loop prelude d at₀ k₀ at k = Asks prelude d at k
 
-abbrev decreases-loop : tie.decreases-loop
+abbrev decreases-loop : tie.decreases-loop-k
 decreases-loop prelude d at₀ k₀ at k = d - k
 
-loop-holds : tie.Need-loop-init invariant-loop decreases-loop
+loop-holds : tie.Need-loop-k-init invariant-loop decreases-loop
 loop-holds c = begin c.before.requires
 
-add-k : tie.Need-overflow-add-k invariant-loop decreases-loop
+add-k : tie.Need-overflow_add-k invariant-loop decreases-loop
 add-k c = omega arith
 
-shared-slice-read-word : tie.Need-shared-slice-read-word invariant-loop decreases-loop
-shared-slice-read-word c = omega (arith, enough c.before.before.loop.invariant c.before.loop-test.true)
+shared-slice-read-word : tie.Need-bounds-prelude-at invariant-loop decreases-loop
+shared-slice-read-word c = omega (arith, enough c.before.before.loop-k.invariant c.before.loop-k-test.true)
 
-add-word : tie.Need-overflow-add-word invariant-loop decreases-loop
-add-word c = omega (arith, enough c.before.before.loop.invariant c.before.loop-test.true)
+add-word : tie.Need-overflow_add-at invariant-loop decreases-loop
+add-word c = omega (arith, enough c.before.before.loop-k.invariant c.before.loop-k-test.true)
 
-shared-slice-read-word-2 : tie.Need-shared-slice-read-word-2 invariant-loop decreases-loop
-shared-slice-read-word-2 c = omega (arith, enough c.before.before.before.loop.invariant c.before.before.loop-test.true)
+shared-slice-read-word-2 : tie.Need-bounds-prelude-at-in-loop-k invariant-loop decreases-loop
+shared-slice-read-word-2 c = omega (arith, enough c.before.before.before.loop-k.invariant c.before.before.loop-k-test.true)
 
 word-requires : tie.Need-word-requires invariant-loop decreases-loop
 word-requires c κs = search rules
 
-returns : tie.Need-returns invariant-loop decreases-loop
+returns : tie.Need-returns-then-word-place invariant-loop decreases-loop
 returns c =
     let at = c.before.before.before.before in
-    out-of-place at.before.loop.invariant at.loop-test.true c.before.word.result c.before.word.ensures c.if1.true
+    out-of-place at.before.loop-k.invariant at.loop-k-test.true c.before.word.result c.before.word.ensures c.if-word-place.true
 
-file-length-requires : tie.Need-file-length-requires invariant-loop decreases-loop
+file-length-requires : tie.Need-file_length-at-requires invariant-loop decreases-loop
 file-length-requires c κs =
     let at = c.before.before.before.before in
-    omega (arith, enough at.before.loop.invariant at.loop-test.true)
+    omega (arith, enough at.before.loop-k.invariant at.loop-k-test.true)
 
-add_at : tie.Need-overflow-add-at invariant-loop decreases-loop
+add_at : tie.Need-overflow_add-at-in-loop-k invariant-loop decreases-loop
 add_at c =
     let at = c.before.before.before.before.before in
-    omega (arith, enough at.before.loop.invariant at.loop-test.true, c.file-length.ensures)
+    omega (arith, enough at.before.loop-k.invariant at.loop-k-test.true, c.file_length-at.ensures)
 
-loop-less : tie.Need-loop-smaller invariant-loop decreases-loop
+loop-less : tie.Need-loop-k-smaller invariant-loop decreases-loop
 loop-less c = omega arith
 
-loop-again : tie.Need-loop-preserved invariant-loop decreases-loop
+loop-again : tie.Need-loop-k-preserved invariant-loop decreases-loop
 loop-again c =
     let at = c.before.before.before.before.before in
     let field = c.before.before.word in
-    next at.before.loop.invariant at.loop-test.true field.result field.ensures c.before.if1.false c.file-length.result c.file-length.ensures
+    next at.before.loop-k.invariant at.loop-k-test.true field.result field.ensures c.before.if-word-place.false c.file_length-at.result c.file_length-at.ensures
 
-returns-2 : tie.Need-returns-2 invariant-loop decreases-loop
-returns-2 c = ended c.before.loop.invariant c.loop-test.false
+returns-2 : tie.Need-returns invariant-loop decreases-loop
+returns-2 c = ended c.before.loop-k.invariant c.loop-k-test.false
 
-pub all-in-place-spec : {M : Type 1} → statement M
-all-in-place-spec =
+pub all_in_place_spec : {M : Type 1} → statement M
+all_in_place_spec =
     tie.close
     (tie.spec
     invariant-loop
