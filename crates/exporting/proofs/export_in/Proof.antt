@@ -17,92 +17,92 @@ use Rattle.exporting.proofs.Answers.{bits-exported, tags-part}
 use Rattle.exporting.proofs.export_in.Statement.{statement}
 use Rattle.exporting.proofs.export_in.Tie as tie
 
-measure-requires : tie.Need-measure-requires
+measure-requires : tie.Need-measure-bits-requires
 measure-requires c κs = search rules
 
-add-bytes : tie.Need-overflow-add-bytes
+add-bytes : tie.Need-overflow_add-bytes
 add-bytes c =
     let a = c.before.before.before.before.before.before.before.before.before.before.before.before.before.before.before.args in
     let p = c.before.before.before.before.before.before.before.before.before.before.before.before.before.before.before.requires.1 in
-    let m = c.before.before.before.before.before.before.measure.ensures p.code p.coded in
+    let m = c.before.before.before.before.before.before.measure-bits.ensures p.code p.coded in
     omega (arith, m.few, p.coded.framed.most)
 
-same_length : tie.Need-same-length
+same_length : tie.Need-shape_of-indices-then-out-bytes
 same_length c = search rules
 
-same-length-2 : tie.Need-same-length-2
+same-length-2 : tie.Need-shape_of-levels-then-out-bytes
 same-length-2 c = search rules
 
-same-length-3 : tie.Need-same-length-3
+same-length-3 : tie.Need-shape_of-depths-then-out-bytes
 same-length-3 c = search rules
 
-returns : tie.Need-returns
+returns : tie.Need-returns-then-out-bytes
 returns c =
     let a = c.before.before.before.before.before.before.before.before.before.before.before.before.before.before.before.before.args in
     let p = c.before.before.before.before.before.before.before.before.before.before.before.before.before.before.before.before.requires.1 in
-    let m = c.before.before.before.before.before.before.before.measure.ensures p.code p.coded in
+    let m = c.before.before.before.before.before.before.before.measure-bits.ensures p.code p.coded in
     let e = bits-exported a.file.now p.code c.before.before.before.before.before.before.before.before.before.before.before.before.before.before.before.before.requires.0 p.coded.nodes_are in
     let n = length-pack (bits 0 (term_of p.code)) in
-    converts-short a.out.now e (omega (arith, n, m.count, c.if1.true))
+    converts-short a.out.now e (omega (arith, n, m.count, c.if-out-bytes.true))
 
-add-end : tie.Need-overflow-add-end
+add-end : tie.Need-overflow_add-end
 add-end c = search rules
 
-sub-write-bits : tie.Need-overflow-sub-write-bits
+sub-write-bits : tie.Need-slice_bounds-write_bits-count
 sub-write-bits c = search rules
 
-part-write-bits-start : tie.Need-slice-bounds-write-bits-start
+part-write-bits-start : tie.Need-slice_bounds-write_bits-start
 part-write-bits-start c = search rules
 
-part-write-bits-end : tie.Need-slice-bounds-write-bits-end
+part-write-bits-end : tie.Need-slice_bounds-write_bits-end
 part-write-bits-end c = search rules
 
-slice-reshare-prefix-write-bits : tie.Need-slice-reshare-prefix-write-bits
+slice-reshare-prefix-write-bits : tie.Need-slice_bounds-write_bits-end-2
 slice-reshare-prefix-write-bits c = search rules
 
-slice-aggregate-write-bits : tie.Need-slice-aggregate-write-bits
+slice-aggregate-write-bits : tie.Need-slice_bounds-write_bits-end-3
 slice-aggregate-write-bits c =
-    let p = c.before.before.before.before.before.before.before.before.before.before.before.before.before.before.before.before.before.before.before.requires.1 in
-    sym (length-take-le _ _ (omega (arith, p.indices_long, c.before.before.before.before.before.before.before.before.before.before.measure.auto.1.1.1.0)))
+    let p = c.before.before.before.before.before.before.before.before.before.before.before.before.before.before.before.before.before.before.requires.1 in
+    sym (length-take-le _ _ (omega (arith, p.indices_long, c.before.before.before.before.before.before.before.before.before.measure-bits.auto.1.1.1.0)))
 
-write-bits-requires : tie.Need-write-bits-requires
+write-bits-requires : tie.Need-write_bits-requires
 write-bits-requires c κs =
-    let a = c.before.before.before.before.before.before.before.before.before.before.before.before.before.before.before.before.before.before.before.args in
-    let p = c.before.before.before.before.before.before.before.before.before.before.before.before.before.before.before.before.before.before.before.requires.1 in
-    let m = c.before.before.before.before.before.before.before.before.before.before.measure.ensures p.code p.coded in
-    let long = c.before.before.before.before.before.before.before.before.before.before.measure.auto.1.1.1.0 in
+    let a = c.before.before.before.before.before.before.before.before.before.before.before.before.before.before.before.before.before.before.args in
+    let p = c.before.before.before.before.before.before.before.before.before.before.before.before.before.before.before.before.before.before.requires.1 in
+    let m = c.before.before.before.before.before.before.before.before.before.measure-bits.ensures p.code p.coded in
+    let long = c.before.before.before.before.before.before.before.before.before.measure-bits.auto.1.1.1.0 in
     let tags_long = length-tags a.file.now (exact p.coded.framed) in
     let same = tags-part p.coded.framed in
-    let bits-same = ap (λ ts. tokens ts (take a.n c.before.before.before.before.before.before.before.before.before.before.measure.new.1.1.1.0)) same ∙ m.bits_are in (
+    let bits-same = ap (λ ts. tokens ts (take a.n c.before.before.before.before.before.before.before.before.before.measure-bits.new.1.1.1.0)) same ∙ m.bits_are in (
       ap length same ∙ tags_long ∙ sym p.coded.framed.count ∙ sym (length-take-le _ _ (omega (arith, p.indices_long, long))),
-      omega (arith, ap length bits-same, m.count, c.before.before.before.if1.false),
+      omega (arith, ap length bits-same, m.count, c.before.before.if-out-bytes.false),
     )
 
-same-length-4 : tie.Need-same-length-4
+same-length-4 : tie.Need-shape_of-indices
 same-length-4 c = search rules
 
-same-length-5 : tie.Need-same-length-5
+same-length-5 : tie.Need-shape_of-levels
 same-length-5 c = search rules
 
-same-length-6 : tie.Need-same-length-6
+same-length-6 : tie.Need-shape_of-depths
 same-length-6 c = search rules
 
-same-length-7 : tie.Need-same-length-7
+same-length-7 : tie.Need-shape_of-out
 same-length-7 c = search rules
 
-returns-2 : tie.Need-returns-2
+returns-2 : tie.Need-returns
 returns-2 c =
-    let a = c.before.before.before.before.before.before.before.before.before.before.before.before.before.before.before.before.before.before.before.before.before.before.args in
-    let p = c.before.before.before.before.before.before.before.before.before.before.before.before.before.before.before.before.before.before.before.before.before.before.requires.1 in
-    let m = c.before.before.before.before.before.before.before.before.before.before.before.before.before.measure.ensures p.code p.coded in
-    let e = bits-exported a.file.now p.code c.before.before.before.before.before.before.before.before.before.before.before.before.before.before.before.before.before.before.before.before.before.before.requires.0 p.coded.nodes_are in
+    let a = c.before.before.before.before.before.before.before.before.before.before.before.before.before.before.before.before.before.before.before.before.before.args in
+    let p = c.before.before.before.before.before.before.before.before.before.before.before.before.before.before.before.before.before.before.before.before.before.requires.1 in
+    let m = c.before.before.before.before.before.before.before.before.before.before.before.before.measure-bits.ensures p.code p.coded in
+    let e = bits-exported a.file.now p.code c.before.before.before.before.before.before.before.before.before.before.before.before.before.before.before.before.before.before.before.before.before.requires.0 p.coded.nodes_are in
     let n = length-pack (bits 0 (term_of p.code)) in
-    let bits-same = ap (λ ts. tokens ts (take a.n c.before.before.before.before.before.before.before.before.before.before.before.before.before.measure.new.1.1.1.0)) (tags-part p.coded.framed) ∙ m.bits_are in
-    converts-written a.out.now e _ _ (omega (arith, n, m.count, c.before.before.before.before.before.before.if1.false)) (omega (arith, n, m.count))
-    (c.before.before.write-bits.ensures ∙ ap (λ bs. overlay (pack bs) a.out.now) bits-same)
+    let bits-same = ap (λ ts. tokens ts (take a.n c.before.before.before.before.before.before.before.before.before.before.before.before.measure-bits.new.1.1.1.0)) (tags-part p.coded.framed) ∙ m.bits_are in
+    converts-written a.out.now e _ _ (omega (arith, n, m.count, c.before.before.before.before.before.if-out-bytes.false)) (omega (arith, n, m.count))
+    (c.before.before.write_bits.ensures ∙ ap (λ bs. overlay (pack bs) a.out.now) bits-same)
 
-pub export-in-spec : {M : Type 1} → statement M
-export-in-spec =
+pub export_in_spec : {M : Type 1} → statement M
+export_in_spec =
     tie.close
     (tie.spec
     measure-requires

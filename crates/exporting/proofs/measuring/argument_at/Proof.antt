@@ -6,22 +6,22 @@ use Rattle.termfile.proofs.Frame.{exact, argument-at}
 use Rattle.exporting.proofs.measuring.argument_at.Statement.{statement}
 use Rattle.exporting.proofs.measuring.argument_at.Tie as tie
 
-add_at : tie.Need-overflow-add-at
+add_at : tie.Need-overflow_add-at
 add_at c = search rules
 
-mul_at : tie.Need-overflow-mul-at
+mul_at : tie.Need-overflow_mul-at
 mul_at c = search rules
 
-add-at-2 : tie.Need-overflow-add-at-2
+add-at-2 : tie.Need-overflow_add-at-2
 add-at-2 c = search rules
 
-shared-slice-read-word : tie.Need-shared-slice-read-word
+shared-slice-read-word : tie.Need-bounds-file-at
 shared-slice-read-word c = search rules
 
-add-word : tie.Need-overflow-add-word
+add-word : tie.Need-overflow_add-at-3
 add-word c = search rules
 
-shared-slice-read-word-2 : tie.Need-shared-slice-read-word-2
+shared-slice-read-word-2 : tie.Need-bounds-file-at-2
 shared-slice-read-word-2 c = search rules
 
 word-requires : tie.Need-word-requires
@@ -33,8 +33,8 @@ returns c =
     let p = c.before.before.before.before.requires in
     c.word.ensures ∙ sym (argument-at a.file.now p.0.count (exact p.0) a.i p.1)
 
-pub argument-at-spec : {M : Type 1} → statement M
-argument-at-spec =
+pub argument_at_spec : {M : Type 1} → statement M
+argument_at_spec =
     tie.close
     (tie.spec
     add_at

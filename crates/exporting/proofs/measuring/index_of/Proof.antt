@@ -7,32 +7,32 @@ use borrow.Author.Tests.{lt-ltb, le-ltb}
 use Rattle.exporting.proofs.measuring.index_of.Statement.{statement}
 use Rattle.exporting.proofs.measuring.index_of.Tie as tie
 
-add-result : tie.Need-overflow-add-result
+add-result : tie.Need-overflow_add-result
 add-result c = search rules
 
-sub-result : tie.Need-overflow-sub-result
-sub-result c = omega (arith, c.before.requires.level_below c.if1.false)
+sub-result : tie.Need-overflow_sub-result
+sub-result c = omega (arith, c.before.requires.level_below c.if-x-f.false)
 
-mul-result : tie.Need-overflow-mul-result
-mul-result c = omega (arith, c.before.requires.level_known c.if1.false, c.before.well-formed)
+mul-result : tie.Need-offset_bounds-levels-x
+mul-result c = omega (arith, c.before.requires.level_known c.if-x-f.false, c.before.well_formed)
 
-shared-slice-read-result : tie.Need-shared-slice-read-result
-shared-slice-read-result c = c.before.before.requires.level_known c.before.if1.false
+shared-slice-read-result : tie.Need-bounds-levels-x
+shared-slice-read-result c = c.before.before.requires.level_known c.before.if-x-f.false
 
-cast-result : tie.Need-overflow-cast-result
-cast-result c = omega (arith, c.shared-slice-known.given (c.before.before.args.x - c.before.before.args.f))
+cast-result : tie.Need-overflow_cast-result
+cast-result c = omega (arith, c.shared_slice_known-1.given (c.before.before.args.x - c.before.before.args.f))
 
-sub-result-2 : tie.Need-overflow-sub-result-2
-sub-result-2 c = omega (arith, c.before.before.requires.level_below c.before.if1.false)
+sub-result-2 : tie.Need-overflow_sub-result-else-x-f-2
+sub-result-2 c = omega (arith, c.before.before.requires.level_below c.before.if-x-f.false)
 
-returns : tie.Need-returns
-returns c = rw (lt-ltb _ _ c.if1.true)
+returns : tie.Need-returns-then-x-f
+returns c = rw (lt-ltb _ _ c.if-x-f.true)
 
-returns-2 : tie.Need-returns-2
-returns-2 c = rw (le-ltb _ _ c.before.if1.false)
+returns-2 : tie.Need-returns-else-x-f
+returns-2 c = rw (le-ltb _ _ c.before.if-x-f.false)
 
-pub index-of-spec : {M : Type 1} → statement M
-index-of-spec =
+pub index_of_spec : {M : Type 1} → statement M
+index_of_spec =
     tie.close
     (tie.spec
     add-result
