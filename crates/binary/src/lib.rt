@@ -12,7 +12,7 @@ ghost use Rattle.binary.specs.Answer.{number_of};
 //   14      Ends     the bits end inside a term, or there are none
 //   15      Padding  a bit behind the term is not zero, or there is a spare byte
 //   16      Range    a node beyond the 16,384th, or a free index that is not below f
-#[derive(Drop)]
+#[derive(Clone, Copy)]
 pub enum Refusal {
     File(termfile::Refusal),
     Output,
@@ -23,7 +23,7 @@ pub enum Refusal {
 
 // What import and export answer: the number of bytes written at the front of the output, or why
 // nothing is written.
-#[derive(Drop)]
+#[derive(Clone, Copy)]
 pub enum Converted {
     Written(usize),
     Refused(Refusal),

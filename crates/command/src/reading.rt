@@ -2,7 +2,7 @@
 ghost use Rattle.command.specs.Reading.{Fits};
 
 // What came of it: how many bytes stand at the start of the buffer, or that a read failed.
-#[derive(Drop)]
+#[derive(Clone, Copy)]
 pub enum Input {
     Read(usize),
     Failed,

@@ -20,7 +20,7 @@ use evaluator::{Answer, Outcome, Report};
 use machine::Machine;
 
 // The machine that a number names, if it names one.
-#[derive(Drop)]
+#[derive(Clone, Copy)]
 pub enum Named {
     Known(Machine),
     Unknown,

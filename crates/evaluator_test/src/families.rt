@@ -1,7 +1,7 @@
 // The families of files that are built in loops: how many nodes a member has, and each of them.
 ghost use Rattle.std.specs.Prelude.{◌≤◌};
 
-#[derive(Drop)]
+#[derive(Clone, Copy)]
 pub struct Node {
     pub tag: u8,
     pub argument: usize,

@@ -57,7 +57,7 @@ fn write_kept(left: Left, stores: bool, renumber: bool, output: bool) {
 
 // What must be left as it was: the node, cell and name stores; the renumber store; and the output from
 // a place on.
-#[derive(Drop)]
+#[derive(Clone, Copy)]
 struct Left {
     stores: bool,
     renumber: bool,

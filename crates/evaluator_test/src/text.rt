@@ -50,7 +50,7 @@ pub fn number(text: &[u8], spaces: usize) -> usize
 }
 
 // What fills the arrays, and whether another run is made first.
-#[derive(Drop)]
+#[derive(Clone, Copy)]
 pub struct Fill {
     pub word: u16,
     pub byte: u8,

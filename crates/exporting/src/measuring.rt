@@ -10,7 +10,7 @@ use termfile::word;
 
 // How far the walk over the nodes is: the abstractions around the next node, the right parts that
 // are to come, and the bits of the nodes so far.
-#[derive(Drop)]
+#[derive(Clone, Copy)]
 pub struct Walk {
     pub depth: usize,
     pub pending: usize,

@@ -7,7 +7,7 @@ ghost use Rattle.exporting.specs.Putting.{Put, Room, Puts};
 
 // Where bits are put: how many bytes are full, and of the byte that is begun its bits and how many
 // they are.
-#[derive(Drop)]
+#[derive(Clone, Copy)]
 pub struct Writer {
     pub at: usize,
     pub byte: u8,

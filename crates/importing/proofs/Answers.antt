@@ -30,7 +30,7 @@ module _ {f : ℕ} {s : List ℕ} {n : ℕ} {c : Cursor} {ts ms : List ℕ} (w :
   -- by whether the bits behind the term are padding
   by-padding : (q : Bool) → f ≤ max_free → padding (ahead s c) ≡ q → imported f s ≡ cond q (bytes (file_of f (canonical f w.term))) (number 15)
   by-padding q few e =
-      free-tested f s few ∙ ap (file_from f) w.read-is ∙ ap (λ p. cond p (bytes (file_of f (canonical f w.term))) (number 15)) e
+      free-tested f s few ∙ ap (file_from f) w.read_is ∙ ap (λ p. cond p (bytes (file_of f (canonical f w.term))) (number 15)) e
 
   pub not-padding : f ≤ max_free → padding (ahead s c) ≡ false → imported f s ≡ number 15
   not-padding = by-padding false

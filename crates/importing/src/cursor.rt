@@ -2,7 +2,7 @@
 ghost use Rattle.std.specs.Prelude.{◌≡◌, ◌-◌, ◌≤◌};
 ghost use Rattle.importing.specs.Ahead.{ahead, Sound, bit_of, taken, Bitwise};
 
-#[derive(Drop)]
+#[derive(Clone, Copy)]
 pub struct Cursor {
     pub at: usize,
     pub byte: u32,
@@ -10,7 +10,7 @@ pub struct Cursor {
 }
 
 // The next bit, and the cursor behind it; or that there is none.
-#[derive(Drop)]
+#[derive(Clone, Copy)]
 pub enum Bit {
     End,
     Zero(Cursor),

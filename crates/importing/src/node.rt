@@ -5,7 +5,7 @@ ghost use Rattle.importing.specs.Ahead.{Sound, Run, NodeAt};
 use crate::cursor::{Bit, Cursor, next_bit};
 
 // Ones up to the end of the bits, or up to a zero, with the cursor behind it.
-#[derive(Drop)]
+#[derive(Clone, Copy)]
 pub enum Ones {
     Endless,
     Until(Cursor),
@@ -13,7 +13,7 @@ pub enum Ones {
 
 // The next node, with the cursor behind it, or that the bits end before its end. A variable has its
 // index; where that is 65,535 or more, which none in range is, it may have another such number.
-#[derive(Drop)]
+#[derive(Clone, Copy)]
 pub enum Node {
     Cut,
     Abstraction(Cursor),

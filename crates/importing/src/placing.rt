@@ -8,7 +8,7 @@ ghost use Rattle.importing.specs.Holding.{Before, After, Ready, Closable, name_o
 
 // How far the reading is: the nodes read, the abstractions around the next one, the applications
 // whose left part is not at its end, and the name that the next abstraction binds.
-#[derive(Drop)]
+#[derive(Clone, Copy)]
 pub struct Spot {
     pub nodes: usize,
     pub depth: usize,

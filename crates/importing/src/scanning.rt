@@ -9,7 +9,7 @@ use crate::placing::{Spot, close_left, put_abstraction, put_application, put_var
 
 // How scanning ends: the bits end inside a term; a node is beyond the 16,384th, or an index out of
 // range; or a term of so many nodes was read, with the cursor behind it.
-#[derive(Drop)]
+#[derive(Clone, Copy)]
 pub enum Scanned {
     Cut,
     Beyond,

@@ -23,7 +23,7 @@ use heads::{all_abstractions, all_in_place};
 use termfile::word;
 
 // Why a byte string is not a prelude, in the order in which the tests are made.
-#[derive(Drop)]
+#[derive(Clone, Copy)]
 pub enum Refusal {
     Cut,
     Definition(termfile::Refusal),
@@ -32,7 +32,7 @@ pub enum Refusal {
 }
 
 // What is told of an accepted prelude: how many definitions it has, and the sums of their counts.
-#[derive(Drop)]
+#[derive(Clone, Copy)]
 pub struct Sums {
     pub definitions: usize,
     pub nodes: usize,
@@ -42,7 +42,7 @@ pub struct Sums {
 }
 
 // What `check` answers.
-#[derive(Drop)]
+#[derive(Clone, Copy)]
 pub enum Checked {
     Accepted(Sums),
     Refused(Refusal),

@@ -25,7 +25,7 @@ use words::put_count;
 
 // What rendering returns: so many bytes are written; the array is too short for the text; or no call gives
 // the answer.
-#[derive(Drop)]
+#[derive(Clone, Copy)]
 pub enum Rendered {
     Written(usize),
     TooShort,
@@ -33,7 +33,7 @@ pub enum Rendered {
 }
 
 // The sum of the shifting steps, or that it needs more than 64 bits.
-#[derive(Drop)]
+#[derive(Clone, Copy)]
 enum Shifts {
     Sum(u64),
     TooMany,

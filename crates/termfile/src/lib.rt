@@ -34,7 +34,7 @@ use shape::is_term;
 use tags::tags_known;
 
 // Why a byte string is not a term file, in the order in which the tests are made.
-#[derive(Drop)]
+#[derive(Clone, Copy)]
 pub enum Refusal {
     Short,
     Limits,
@@ -46,7 +46,7 @@ pub enum Refusal {
 }
 
 // What is told of an accepted file.
-#[derive(Drop)]
+#[derive(Clone, Copy)]
 pub struct Counts {
     pub free: usize,
     pub nodes: usize,
@@ -56,7 +56,7 @@ pub struct Counts {
 }
 
 // What `check` answers.
-#[derive(Drop)]
+#[derive(Clone, Copy)]
 pub enum Checked {
     Accepted(Counts),
     Refused(Refusal),

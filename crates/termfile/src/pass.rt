@@ -9,7 +9,7 @@ ghost use Rattle.termfile.specs.Passes.{Framed, tested};
 use crate::layout::{argument_of, tag_of};
 
 // What the pass finds: nothing to refuse, and so many abstractions; or something to refuse.
-#[derive(Drop)]
+#[derive(Clone, Copy)]
 pub enum Tested {
     Passed(usize),
     Failed,

@@ -10,7 +10,7 @@ ghost use Rattle.termfile.specs.Passes.{Framed, sizes_of, joined};
 use crate::layout::{argument_of, tag_of};
 
 // What a node makes of the codes behind it: a code of a size, or none.
-#[derive(Drop)]
+#[derive(Clone, Copy)]
 pub enum Joined {
     Size(usize),
     Broken,

@@ -118,14 +118,14 @@ pub fn put_term(text: &[u8], n: usize, file: &mut [u8]) {
 }
 
 // The three ways to nest deeply.
-#[derive(Drop)]
+#[derive(Clone, Copy)]
 pub enum Nest {
     Abstractions,
     Left,
     Right,
 }
 
-#[derive(Drop)]
+#[derive(Clone, Copy)]
 pub struct Node {
     pub tag: u8,
     pub argument: usize,

@@ -90,12 +90,12 @@ same-length-6 c = search rules
 same-length-7 : tie.Need-shape_of-out
 same-length-7 c = search rules
 
-returns-2 : tie.Need-returns
+returns-2 : tie.Need-returns-then-out-bytes
 returns-2 c =
-    let a = c.before.before.before.before.before.before.before.before.before.before.before.before.before.before.before.before.before.before.before.before.before.args in
-    let p = c.before.before.before.before.before.before.before.before.before.before.before.before.before.before.before.before.before.before.before.before.before.requires.1 in
+    let a = c.before.before.before.before.before.before.before.before.before.before.before.before.before.before.before.before.args in
+    let p = c.before.before.before.before.before.before.before.before.before.before.before.before.before.before.before.before.requires.1 in
     let m = c.before.before.before.before.before.before.before.before.before.before.before.before.measure-bits.ensures p.code p.coded in
-    let e = bits-exported a.file.now p.code c.before.before.before.before.before.before.before.before.before.before.before.before.before.before.before.before.before.before.before.before.before.requires.0 p.coded.nodes_are in
+    let e = bits-exported a.file.now p.code c.before.before.before.before.before.before.before.before.before.before.before.before.before.before.before.before.requires.0 p.coded.nodes_are in
     let n = length-pack (bits 0 (term_of p.code)) in
     let bits-same = ap (λ ts. tokens ts (take a.n c.before.before.before.before.before.before.before.before.before.before.before.before.measure-bits.new.1.1.1.0)) (tags-part p.coded.framed) ∙ m.bits_are in
     converts-written a.out.now e _ _ (omega (arith, n, m.count, c.before.before.before.before.before.if-out-bytes.false)) (omega (arith, n, m.count))

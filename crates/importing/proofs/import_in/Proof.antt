@@ -14,164 +14,164 @@ use Rattle.importing.proofs.import_in.Statement.{statement}
 use Rattle.importing.proofs.import_in.Tie as tie
 
 -- the term that was read
-read_here : (c : tie.After-known-told)
-    → let a = c.before.before.before.before.before.before.before.before.before.before.before.before.before.before.before.before.before.before.before.before.before.before.args in let r = c.before.n.given.0 in let last = c.before.before.before.before.before.before.before.before.before.before.before.scan.new in
-    ReadTo a.f a.bits.now r.0 r.1.0 last.1.1.0 last.1.1.1.0
+read_here : (c : tie.In-Read)
+    → let a = c.before.before.before.before.before.before.before.before.before.before.before.before.before.before.before.before.before.before.before.before.args in let last = c.before.before.before.before.before.before.before.before.before.scan.new in
+    ReadTo a.f a.bits.now c.in-Read.n c.in-Read.rest last.1.1.0 last.1.1.1.0
 read_here c =
-    let a = c.before.before.before.before.before.before.before.before.before.before.before.before.before.before.before.before.before.before.before.before.before.before.args in
-    let last = c.before.before.before.before.before.before.before.before.before.before.before.scan.new in
-    subst (Scans a.f a.bits.now last.1.1.0 last.1.1.1.0) c.before.n.given.1 c.before.before.before.before.before.before.before.before.before.before.before.scan.ensures
+    let a = c.before.before.before.before.before.before.before.before.before.before.before.before.before.before.before.before.before.before.before.before.args in
+    let last = c.before.before.before.before.before.before.before.before.before.scan.new in
+    subst (Scans a.f a.bits.now last.1.1.0 last.1.1.1.0) c.in-Read.is c.before.before.before.before.before.before.before.before.before.scan.ensures
 
 scan-requires : tie.Need-scan-requires
 scan-requires c κs = search rules
 
-enum_told : tie.Need-enum-told
+enum_told : tie.Need-enum_told-1
 enum_told c = search rules
 
-enum-told-2 : tie.Need-enum-told-2
+enum-told-2 : tie.Need-enum_told-in-Beyond
 enum-told-2 c = search rules
 
-enum-known-n : tie.Need-enum-known-n
+enum-known-n : tie.Need-enum_known-n
 enum-known-n c = search rules
 
-is-padding-requires : tie.Need-is-padding-requires
+is-padding-requires : tie.Need-is_padding-requires
 is-padding-requires c κs = (read_here c).sound
 
-same_length : tie.Need-same-length
+same_length : tie.Need-shape_of-tags-then-not-is_padding
 same_length c = search rules
 
-same-length-2 : tie.Need-same-length-2
+same-length-2 : tie.Need-shape_of-args-then-not-is_padding
 same-length-2 c = search rules
 
-same-length-3 : tie.Need-same-length-3
+same-length-3 : tie.Need-shape_of-names-then-not-is_padding
 same-length-3 c = search rules
 
-same-length-4 : tie.Need-same-length-4
+same-length-4 : tie.Need-shape_of-apps-then-not-is_padding
 same-length-4 c = search rules
 
-returns : tie.Need-returns
+returns : tie.Need-returns-then-not-is_padding
 returns c =
     let k = c.before.before in
     let w = read_here k in
-    let a = k.before.before.before.before.before.before.before.before.before.before.before.before.before.before.before.before.before.before.before.before.before.before.args in
-    let few = k.before.before.before.before.before.before.before.before.before.before.before.before.before.before.before.before.before.before.before.before.before.before.requires.0 in
-    converts-refused Padding a.out.now (not-padding w few (sym c.before.is-padding.ensures ∙ not-true _ c.if1.true))
+    let a = k.before.before.before.before.before.before.before.before.before.before.before.before.before.before.before.before.before.before.before.before.args in
+    let few = k.before.before.before.before.before.before.before.before.before.before.before.before.before.before.before.before.before.before.before.before.requires.0 in
+    converts-refused Padding a.out.now (not-padding w few (sym c.before.is_padding.ensures ∙ c.if-not-is_padding.true))
 
-cast-bytes : tie.Need-overflow-cast-bytes
+cast-bytes : tie.Need-overflow_cast-bytes
 cast-bytes c = omega (arith, (read_here c.before.before).few)
 
-mul-bytes : tie.Need-overflow-mul-bytes
+mul-bytes : tie.Need-overflow_mul-bytes
 mul-bytes c = omega (arith, (read_here c.before.before).few)
 
-add-bytes : tie.Need-overflow-add-bytes
+add-bytes : tie.Need-overflow_add-bytes
 add-bytes c = omega (arith, (read_here c.before.before).few)
 
-cast-bytes-2 : tie.Need-overflow-cast-bytes-2
+cast-bytes-2 : tie.Need-overflow_cast-bytes-in-Read
 cast-bytes-2 c = omega (arith, (read_here c.before.before).few)
 
-same-length-5 : tie.Need-same-length-5
+same-length-5 : tie.Need-shape_of-tags-then-out-bytes
 same-length-5 c = search rules
 
-same-length-6 : tie.Need-same-length-6
+same-length-6 : tie.Need-shape_of-args-then-out-bytes
 same-length-6 c = search rules
 
-same-length-7 : tie.Need-same-length-7
+same-length-7 : tie.Need-shape_of-names-then-out-bytes
 same-length-7 c = search rules
 
-same-length-8 : tie.Need-same-length-8
+same-length-8 : tie.Need-shape_of-apps-then-out-bytes
 same-length-8 c = search rules
 
-returns-2 : tie.Need-returns-2
+returns-2 : tie.Need-returns-then-out-bytes
 returns-2 c =
     let k = c.before.before.before in
     let w = read_here k in
-    let a = k.before.before.before.before.before.before.before.before.before.before.before.before.before.before.before.before.before.before.before.before.before.before.args in
-    let few = k.before.before.before.before.before.before.before.before.before.before.before.before.before.before.before.before.before.before.before.before.before.before.requires.0 in
-    let e = file-read w few (sym c.before.before.is-padding.ensures ∙ not-false _ c.before.if1.false) in
-    converts-short a.out.now e (omega (arith, file-length w, c.if2.true))
+    let a = k.before.before.before.before.before.before.before.before.before.before.before.before.before.before.before.before.before.before.before.before.args in
+    let few = k.before.before.before.before.before.before.before.before.before.before.before.before.before.before.before.before.before.before.before.before.requires.0 in
+    let e = file-read w few (sym c.before.before.is_padding.ensures ∙ c.before.if-not-is_padding.false) in
+    converts-short a.out.now e (omega (arith, file-length w, c.if-out-bytes.true))
 
-slice-reshare-prefix-write-file : tie.Need-slice-reshare-prefix-write-file
+slice-reshare-prefix-write-file : tie.Need-slice_bounds-write_file-end
 slice-reshare-prefix-write-file c = within_tags (read_here c.before.before.before.before)
 
-slice-aggregate-write-file : tie.Need-slice-aggregate-write-file
-slice-aggregate-write-file c = sym (length-take-le _ _ (within_tags (read_here c.before.before.before.before.before)))
+slice-aggregate-write-file : tie.Need-slice_bounds-write_file-end-in-Read
+slice-aggregate-write-file c = sym (length-take-le _ _ (within_tags (read_here c.before.before.before.before)))
 
-slice-reshare-prefix-write-file-2 : tie.Need-slice-reshare-prefix-write-file-2
-slice-reshare-prefix-write-file-2 c = within_arguments (read_here c.before.before.before.before.before)
+slice-reshare-prefix-write-file-2 : tie.Need-slice_bounds-write_file-end-in-Read-2
+slice-reshare-prefix-write-file-2 c = within_arguments (read_here c.before.before.before.before)
 
-slice-aggregate-write-file-2 : tie.Need-slice-aggregate-write-file-2
-slice-aggregate-write-file-2 c = sym (length-take-le _ _ (within_arguments (read_here c.before.before.before.before.before.before)))
+slice-aggregate-write-file-2 : tie.Need-slice_bounds-write_file-end-in-Read-3
+slice-aggregate-write-file-2 c = sym (length-take-le _ _ (within_arguments (read_here c.before.before.before.before)))
 
-write-file-requires : tie.Need-write-file-requires
+write-file-requires : tie.Need-write_file-requires
 write-file-requires c κs =
-    let w = read_here c.before.before.before.before.before.before in
+    let w = read_here c.before.before.before.before in
     let t = length-take-le _ _ (within_tags w) in
     let m = length-take-le _ _ (within_arguments w) in
-    (c.before.before.before.before.before.before.before.before.before.before.before.before.before.before.before.before.before.before.before.before.before.before.before.before.before.before.before.before.requires.0, (t ∙ sym m, (omega (arith, t, w.few), omega (arith, t, c.before.before.before.if2.false))))
+    (c.before.before.before.before.before.before.before.before.before.before.before.before.before.before.before.before.before.before.before.before.before.before.before.before.requires.0, (t ∙ sym m, (omega (arith, t, w.few), omega (arith, t, c.before.if-out-bytes.false))))
 
-same-length-9 : tie.Need-same-length-9
+same-length-9 : tie.Need-shape_of-tags-in-Cut
 same-length-9 c = search rules
 
-same-length-10 : tie.Need-same-length-10
+same-length-10 : tie.Need-shape_of-args-in-Cut
 same-length-10 c = search rules
 
-same-length-11 : tie.Need-same-length-11
+same-length-11 : tie.Need-shape_of-names-in-Cut
 same-length-11 c = search rules
 
-same-length-12 : tie.Need-same-length-12
+same-length-12 : tie.Need-shape_of-apps-in-Cut
 same-length-12 c = search rules
 
-returns-3 : tie.Need-returns-3
+returns-3 : tie.Need-returns-in-Cut
 returns-3 c =
-    let a = c.before.before.before.before.before.before.before.before.before.before.before.before.before.before.before.before.before.before.before.before.before.args in
-    let e = subst (Scans a.f a.bits.now c.before.before.before.before.before.before.before.before.before.before.scan.new.1.1.0 c.before.before.before.before.before.before.before.before.before.before.scan.new.1.1.1.0) c.enum_told.given.1 c.before.before.before.before.before.before.before.before.before.before.scan.ensures in
-    converts-refused Ends a.out.now (not-read a.f a.bits.now c.before.before.before.before.before.before.before.before.before.before.before.before.before.before.before.before.before.before.before.before.before.requires.0 14 e)
+    let a = c.before.before.before.before.before.before.before.before.before.before.before.before.before.before.before.before.before.before.before.before.args in
+    let e = subst (Scans a.f a.bits.now c.before.before.before.before.before.before.before.before.before.scan.new.tags c.before.before.before.before.before.before.before.before.before.scan.new.args) c.in-Cut.is c.before.before.before.before.before.before.before.before.before.scan.ensures in
+    converts-refused Ends a.out.now (not-read a.f a.bits.now c.before.before.before.before.before.before.before.before.before.before.before.before.before.before.before.before.before.before.before.before.requires.0 14 e)
 
-same-length-13 : tie.Need-same-length-13
+same-length-13 : tie.Need-shape_of-tags-in-Beyond
 same-length-13 c = search rules
 
-same-length-14 : tie.Need-same-length-14
+same-length-14 : tie.Need-shape_of-args-in-Beyond
 same-length-14 c = search rules
 
-same-length-15 : tie.Need-same-length-15
+same-length-15 : tie.Need-shape_of-names-in-Beyond
 same-length-15 c = search rules
 
-same-length-16 : tie.Need-same-length-16
+same-length-16 : tie.Need-shape_of-apps-in-Beyond
 same-length-16 c = search rules
 
-returns-4 : tie.Need-returns-4
+returns-4 : tie.Need-returns-in-Beyond
 returns-4 c =
-    let a = c.before.before.before.before.before.before.before.before.before.before.before.before.before.before.before.before.before.before.before.before.before.args in
-    let e = subst (Scans a.f a.bits.now c.before.before.before.before.before.before.before.before.before.before.scan.new.1.1.0 c.before.before.before.before.before.before.before.before.before.before.scan.new.1.1.1.0) c.enum-told2.given.1 c.before.before.before.before.before.before.before.before.before.before.scan.ensures in
-    converts-refused Range a.out.now (not-read a.f a.bits.now c.before.before.before.before.before.before.before.before.before.before.before.before.before.before.before.before.before.before.before.before.before.requires.0 16 e)
+    let a = c.before.before.before.before.before.before.before.before.before.before.before.before.before.before.before.before.before.before.before.before.args in
+    let e = subst (Scans a.f a.bits.now c.before.before.before.before.before.before.before.before.before.scan.new.tags c.before.before.before.before.before.before.before.before.before.scan.new.args) c.in-Beyond.is c.before.before.before.before.before.before.before.before.before.scan.ensures in
+    converts-refused Range a.out.now (not-read a.f a.bits.now c.before.before.before.before.before.before.before.before.before.before.before.before.before.before.before.before.before.before.before.before.requires.0 16 e)
 
-same-length-17 : tie.Need-same-length-17
+same-length-17 : tie.Need-shape_of-tags-else-out-bytes
 same-length-17 c = search rules
 
-same-length-18 : tie.Need-same-length-18
+same-length-18 : tie.Need-shape_of-args-else-out-bytes
 same-length-18 c = search rules
 
-same-length-19 : tie.Need-same-length-19
+same-length-19 : tie.Need-shape_of-names-else-out-bytes
 same-length-19 c = search rules
 
-same-length-20 : tie.Need-same-length-20
+same-length-20 : tie.Need-shape_of-apps-else-out-bytes
 same-length-20 c = search rules
 
-same-length-21 : tie.Need-same-length-21
+same-length-21 : tie.Need-shape_of-out
 same-length-21 c = search rules
 
-returns-5 : tie.Need-returns-5
+returns-5 : tie.Need-returns-else-out-bytes
 returns-5 c =
-    let k = c.before.before.before.before.before.before.before.before.before in
+    let k = c.before.before.before.before.before.before.before in
     let w = read_here k in
-    let a = k.before.before.before.before.before.before.before.before.before.before.before.before.before.before.before.before.before.before.before.before.before.before.args in
-    let few = k.before.before.before.before.before.before.before.before.before.before.before.before.before.before.before.before.before.before.before.before.before.before.requires.0 in
-    let e = file-read w few (sym c.before.before.before.before.before.before.before.before.is-padding.ensures ∙ not-false _ c.before.before.before.before.before.before.before.if1.false) in
-    converts-written a.out.now e _ _ (omega (arith, file-length w, c.before.before.before.before.before.before.if2.false)) (file-length w)
-    (c.before.before.write-file.ensures ∙ ap (λ s. overlay s a.out.now) (file-bytes w))
+    let a = k.before.before.before.before.before.before.before.before.before.before.before.before.before.before.before.before.before.before.before.before.args in
+    let few = k.before.before.before.before.before.before.before.before.before.before.before.before.before.before.before.before.before.before.before.before.requires.0 in
+    let e = file-read w few (sym c.before.before.before.before.before.before.is_padding.ensures ∙ c.before.before.before.before.before.if-not-is_padding.false) in
+    converts-written a.out.now e _ _ (omega (arith, file-length w, c.before.before.before.before.if-out-bytes.false)) (file-length w)
+    (c.before.before.write_file.ensures ∙ ap (λ s. overlay s a.out.now) (file-bytes w))
 
-pub import-in-spec : {M : Type 1} → statement M
-import-in-spec =
+pub import_in_spec : {M : Type 1} → statement M
+import_in_spec =
     tie.close
     (tie.spec
     scan-requires

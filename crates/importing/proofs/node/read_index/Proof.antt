@@ -8,57 +8,57 @@ use borrow.Author.Rules.{rules}
 use Rattle.importing.proofs.node.read_index.Statement.{statement}
 use Rattle.importing.proofs.node.read_index.Tie as tie
 
-pass-ones-requires : tie.Need-pass-ones-requires
+pass-ones-requires : tie.Need-pass_ones-requires
 pass-ones-requires c κs = search rules
 
-enum-known-next : tie.Need-enum-known-next
+enum-known-next : tie.Need-enum_known-next
 enum-known-next c = search rules
 
-enum_told : tie.Need-enum-told
+enum_told : tie.Need-enum_told-1
 enum_told c = search rules
 
-returns : tie.Need-returns
-returns c = index-cut (subst (Run _ _) c.enum_told.given.1 c.before.before.pass-ones.ensures)
+returns : tie.Need-returns-in_default
+returns c = index-cut (subst (Run _ _) c.in_default.is c.before.pass_ones.ensures)
 
-sub-bytes : tie.Need-overflow-sub-bytes
+sub-bytes : tie.Need-overflow_sub-bytes
 sub-bytes c =
-    let w = subst (Run _ _) c.before.before.before.next.given.1 c.before.before.before.before.before.pass-ones.ensures in
+    let w = subst (Run _ _) c.before.before.in-Until.is c.before.before.before.pass_ones.ensures in
     w.2.forth
 
-returns-2 : tie.Need-returns-2
+returns-2 : tie.Need-returns-then-bytes-gt8192
 returns-2 c =
-    let w = subst (Run _ _) c.before.before.before.before.next.given.1 c.before.before.before.before.before.before.pass-ones.ensures in
+    let w = subst (Run _ _) c.before.before.before.in-Until.is c.before.before.before.before.pass_ones.ensures in
     index-far _ _ _ w _ (omega (arith, w.2.far, w.2.sound)) (omega arith)
 
-mul-t7 : tie.Need-overflow-mul-t7
+mul-t7 : tie.Need-overflow_mul-result
 mul-t7 c = search rules
 
-cast-t8 : tie.Need-overflow-cast-t8
+cast-t8 : tie.Need-overflow_cast-result
 cast-t8 c = search rules
 
-add-t9 : tie.Need-overflow-add-t9
+add-t9 : tie.Need-overflow_add-result
 add-t9 c = search rules
 
-cast-t10 : tie.Need-overflow-cast-t10
+cast-t10 : tie.Need-overflow_cast-result-2
 cast-t10 c = search rules
 
-sub-t11 : tie.Need-overflow-sub-t11
+sub-t11 : tie.Need-overflow_sub-result
 sub-t11 c =
-    let w = subst (Run _ _) c.before.before.before.before.before.before.next.given.1 c.before.before.before.before.before.before.before.before.pass-ones.ensures in
+    let w = subst (Run _ _) c.before.before.before.before.before.in-Until.is c.before.before.before.before.before.before.pass_ones.ensures in
     omega (arith, w.2.far, w.2.forth)
 
-sub-t12 : tie.Need-overflow-sub-t12
+sub-t12 : tie.Need-overflow_sub-result-2
 sub-t12 c =
-    let w = subst (Run _ _) c.before.before.before.before.before.before.next.given.1 c.before.before.before.before.before.before.before.before.pass-ones.ensures in
+    let w = subst (Run _ _) c.before.before.before.before.before.in-Until.is c.before.before.before.before.before.before.pass_ones.ensures in
     omega (arith, w.2.far, w.2.forth)
 
-returns-3 : tie.Need-returns-3
+returns-3 : tie.Need-returns
 returns-3 c =
-    let w = subst (Run _ _) c.before.before.before.before.before.before.next.given.1 c.before.before.before.before.before.before.before.before.pass-ones.ensures in
+    let w = subst (Run _ _) c.before.before.before.before.before.in-Until.is c.before.before.before.before.before.before.pass_ones.ensures in
     index-near _ _ _ w _ (omega (arith, w.2.far, w.2.forth))
 
-pub read-index-spec : {M : Type 1} → statement M
-read-index-spec =
+pub read_index_spec : {M : Type 1} → statement M
+read_index_spec =
     tie.close
     (tie.spec
     pass-ones-requires

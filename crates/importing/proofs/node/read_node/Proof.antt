@@ -12,70 +12,70 @@ use borrow.Author.Rules.{rules}
 use Rattle.importing.proofs.node.read_node.Statement.{statement}
 use Rattle.importing.proofs.node.read_node.Tie as tie
 
-next-bit-requires : tie.Need-next-bit-requires
+next-bit-requires : tie.Need-next_bit-requires
 next-bit-requires c κs = search rules
 
-enum_told : tie.Need-enum-told
+enum_told : tie.Need-enum_told-1
 enum_told c = search rules
 
-enum-known-first : tie.Need-enum-known-first
+enum-known-first : tie.Need-enum_known-first
 enum-known-first c = search rules
 
-read-index-requires : tie.Need-read-index-requires
-read-index-requires c κs = (subst (Bitwise _) c.before.first.given.1 c.before.before.before.next_bit.ensures.1).sound
+read-index-requires : tie.Need-read_index-requires
+read-index-requires c κs = (subst (Bitwise _) c.in-One.is c.before.next_bit.ensures.1).sound
 
-enum-known-first-2 : tie.Need-enum-known-first-2
+enum-known-first-2 : tie.Need-enum_known-first-in-Zero-1
 enum-known-first-2 c = search rules
 
-next-bit-requires-2 : tie.Need-next-bit-requires-2
-next-bit-requires-2 c κs = (subst (Bitwise _) c.before.first2.given.1 c.before.before.before.next_bit.ensures.1).sound
+next-bit-requires-2 : tie.Need-next_bit-requires-in-Zero
+next-bit-requires-2 c κs = (subst (Bitwise _) c.in-Zero.is c.before.next_bit.ensures.1).sound
 
-enum-told-2 : tie.Need-enum-told-2
+enum-told-2 : tie.Need-enum_told-in-End-next_bit
 enum-told-2 c = search rules
 
-enum-known-next : tie.Need-enum-known-next
+enum-known-next : tie.Need-enum_known-next
 enum-known-next c = search rules
 
-enum-known-next-2 : tie.Need-enum-known-next-2
+enum-known-next-2 : tie.Need-enum_known-next-in-One-next_bit-2
 enum-known-next-2 c = search rules
 
-returns : tie.Need-returns
+returns : tie.Need-returns-in-End
 returns c =
-    let e = c.before.before.next_bit.ensures.0 ∙ ap (taken _) c.enum_told.given.1 in
+    let e = c.before.next_bit.ensures.0 ∙ ap (taken _) c.in-End.is in
     record { goes_on = λ f p n h. ap (reading f nothing p n) e; shorter = tt }
 
-returns-2 : tie.Need-returns-2
+returns-2 : tie.Need-returns-in-One
 returns-2 c =
-    let e = c.before.before.before.before.next_bit.ensures.0 ∙ ap (taken _) c.before.before.first.given.1 in
-    let w = c.read-index.ensures in
+    let e = c.before.before.next_bit.ensures.0 ∙ ap (taken _) c.before.in-One.is in
+    let w = c.read_index.ensures in
     node-index _ _ _ e w
 
-returns-3 : tie.Need-returns-3
+returns-3 : tie.Need-returns-in-End-next_bit
 returns-3 c =
-    let e = c.before.before.before.before.before.before.next_bit.ensures.0 ∙ ap (taken _) c.before.before.before.before.first2.given.1 in
-    let d = c.before.before.next-bit2.ensures.0 ∙ ap (taken _) c.enum-told2.given.1 in
+    let e = c.before.before.before.next_bit.ensures.0 ∙ ap (taken _) c.before.before.in-Zero.is in
+    let d = c.before.next_bit-in-Zero.ensures.0 ∙ ap (taken _) c.in-End-next_bit.is in
     record { goes_on = λ f p n h. ap (reading f nothing p n) (e ∙ ap (λ l. false ∷ l) d); shorter = tt }
 
-returns-4 : tie.Need-returns-4
+returns-4 : tie.Need-returns-in-Zero-next_bit
 returns-4 c =
-    let e = c.before.before.before.before.before.before.before.next_bit.ensures.0 ∙ ap (taken _) c.before.before.before.before.before.first2.given.1 in
-    let d = c.before.before.before.next-bit2.ensures.0 ∙ ap (taken _) c.before.next.given.1 in
+    let e = c.before.before.before.next_bit.ensures.0 ∙ ap (taken _) c.before.before.in-Zero.is in
+    let d = c.before.next_bit-in-Zero.ensures.0 ∙ ap (taken _) c.in-Zero-next_bit.is in
     record {
       goes_on = λ f p n h. ap (reading f nothing p n) (e ∙ ap (λ l. false ∷ l) d);
-      shorter = ((subst (Bitwise _) c.before.next.given.1 c.before.before.before.next-bit2.ensures.1).sound, omega (arith, ap length e, ap length d));
+      shorter = ((subst (Bitwise _) c.in-Zero-next_bit.is c.before.next_bit-in-Zero.ensures.1).sound, omega (arith, ap length e, ap length d));
     }
 
-returns-5 : tie.Need-returns-5
+returns-5 : tie.Need-returns-in-One-next_bit
 returns-5 c =
-    let e = c.before.before.before.before.before.before.before.next_bit.ensures.0 ∙ ap (taken _) c.before.before.before.before.before.first2.given.1 in
-    let d = c.before.before.before.next-bit2.ensures.0 ∙ ap (taken _) c.before.next2.given.1 in
+    let e = c.before.before.before.next_bit.ensures.0 ∙ ap (taken _) c.before.before.in-Zero.is in
+    let d = c.before.next_bit-in-Zero.ensures.0 ∙ ap (taken _) c.in-One-next_bit.is in
     record {
       goes_on = λ f p n h. ap (reading f nothing p n) (e ∙ ap (λ l. false ∷ l) d);
-      shorter = ((subst (Bitwise _) c.before.next2.given.1 c.before.before.before.next-bit2.ensures.1).sound, omega (arith, ap length e, ap length d));
+      shorter = ((subst (Bitwise _) c.in-One-next_bit.is c.before.next_bit-in-Zero.ensures.1).sound, omega (arith, ap length e, ap length d));
     }
 
-pub read-node-spec : {M : Type 1} → statement M
-read-node-spec =
+pub read_node_spec : {M : Type 1} → statement M
+read_node_spec =
     tie.close
     (tie.spec
     next-bit-requires

@@ -8,45 +8,45 @@ use borrow.Author.Rules.{rules}
 use Rattle.importing.proofs.placing.close_left.Statement.{statement}
 use Rattle.importing.proofs.placing.close_left.Tie as tie
 
-sub-pending : tie.Need-overflow-sub-pending
+sub-pending : tie.Need-overflow_sub-pending
 sub-pending c = search rules
 
-mul-app : tie.Need-overflow-mul-app
+mul-app : tie.Need-offset_bounds-apps-pending
 mul-app c = search rules
 
-shared-slice-read-app : tie.Need-shared-slice-read-app
+shared-slice-read-app : tie.Need-bounds-apps-pending
 shared-slice-read-app c = search rules
 
-cast-app : tie.Need-overflow-cast-app
+cast-app : tie.Need-overflow_cast-app
 cast-app c = search rules
 
-mul-depth : tie.Need-overflow-mul-depth
+mul-depth : tie.Need-offset_bounds-args-app
 mul-depth c = search rules
 
-slice-read-depth : tie.Need-slice-read-depth
+slice-read-depth : tie.Need-bounds-args-app
 slice-read-depth c = search rules
 
-cast-depth : tie.Need-overflow-cast-depth
+cast-depth : tie.Need-overflow_cast-depth
 cast-depth c =
     let a = c.before.before.before.args in
-    omega (arith, c.slice-known.given (get_or a.apps.now (a.spot.pending - 1) 0))
+    omega (arith, c.slice_known-1.given (get_or a.apps.now (a.spot.pending - 1) 0))
 
-sub-args : tie.Need-overflow-sub-args
+sub-args : tie.Need-overflow_sub-args
 sub-args c = search rules
 
-sub-args-2 : tie.Need-overflow-sub-args-2
+sub-args-2 : tie.Need-overflow_sub-args-2
 sub-args-2 c = search rules
 
-cast-args : tie.Need-overflow-cast-args
+cast-args : tie.Need-overflow_cast-args
 cast-args c = search rules
 
-mul-args : tie.Need-overflow-mul-args
+mul-args : tie.Need-offset_bounds-args-app-2
 mul-args c = search rules
 
-slice-write-args : tie.Need-slice-write-args
+slice-write-args : tie.Need-bounds-args-app-2
 slice-write-args c = search rules
 
-same_length : tie.Need-same-length
+same_length : tie.Need-shape_of-args
 same_length c = search rules
 
 returns : tie.Need-returns
@@ -54,8 +54,8 @@ returns c =
     let a = c.before.before.before.before.args in
     λ f p q t ts xs e h. before-right f p q t a.spot ts a.args.now xs a.apps.now e h
 
-pub close-left-spec : {M : Type 1} → statement M
-close-left-spec =
+pub close_left_spec : {M : Type 1} → statement M
+close_left_spec =
     tie.close
     (tie.spec
     sub-pending
