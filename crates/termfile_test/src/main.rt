@@ -128,7 +128,8 @@ fn middling(out: &impl Print) -> io::Result<()> {
         Nest::Right,
         1,
         1026,
-    )
+    )?;
+    Ok(())
 }
 
 // The largest files, one that is larger, and some with a defect.
@@ -147,7 +148,8 @@ fn large(out: &impl Print) -> io::Result<()> {
     nest(out, b"0 right parts, 16384 nodes", Nest::Right, 0, 16384)?;
     nest(out, b"2 16385 nodes", Nest::Abstractions, 1, 16385)?;
     nest(out, b"5 left parts, one missing", Nest::Left, 1, 16384)?;
-    nest(out, b"5 right parts, one missing", Nest::Right, 1, 16384)
+    nest(out, b"5 right parts, one missing", Nest::Right, 1, 16384)?;
+    Ok(())
 }
 
 // The file of 16383 abstractions with another node, or another length.
@@ -188,5 +190,6 @@ fn large_defects(out: &impl Print) -> io::Result<()> {
         0,
         16382,
         49156,
-    )
+    )?;
+    Ok(())
 }
