@@ -60,7 +60,7 @@ pub extern "C" fn glow_evaluate(
         report.old report.new }
 {
     embed::glow_evaluate(
-        machine, file, budget, tags, args, codes, owns, nexts, places, renumber, out_tags, out_args,
-        report,
+        machine, file, budget, tags, args, codes, owns, nexts, places, renumber, out_tags,
+        out_args, report,
     )
 }
