@@ -15,24 +15,25 @@ mkdir -p target "$scratch"
 exec 9> target/build.lock
 flock 9 # tools/build makes the same archives
 scratch=$(cd "$scratch" && pwd)
-kit=$(dirname "$(dirname "$(rt doc)")")
-own=on/$(uname -m)
-compiler=$kit/$own/toolchain/bin/clang
+kit=$(dirname "$(rt doc)")
+compiler=$kit/toolchain/bin/clang
 
-# The kit with a compiler that keeps what it is given. rt clears the environment, so the place is written into it.
+# The kit with a compiler that keeps what it is given. rt looks for the kit beside itself, so it is copied, and all else is linked. The
+# environment that the compiler runs in is empty, so the place is written into it.
 rm -rf "$scratch/kit"
-mkdir -p "$scratch/kit/$own/toolchain/bin"
-for path in "$kit"/* "$kit/$own"/* "$kit/$own/toolchain"/* "$kit/$own/toolchain/bin"/*; do
+mkdir -p "$scratch/kit/bin" "$scratch/kit/toolchain/bin"
+cp "$kit"/bin/rt* "$scratch/kit/bin/"
+for path in "$kit"/* "$kit"/bin/* "$kit"/toolchain/* "$kit"/toolchain/bin/*; do
     there=$scratch/kit/${path#"$kit"/}
     [ -e "$there" ] || ln -s "$path" "$there"
 done
-rm "$scratch/kit/$own/toolchain/bin/clang"
-cat > "$scratch/kit/$own/toolchain/bin/clang" <<S
+rm "$scratch/kit/toolchain/bin/clang"
+cat > "$scratch/kit/toolchain/bin/clang" <<S
 #!/bin/sh
 for word in "\$@"; do case \$word in *.bc) cp "\$word" "$scratch/module.bc" ;; esac; done
 exec "$compiler" "\$@"
 S
-chmod +x "$scratch/kit/$own/toolchain/bin/clang"
+chmod +x "$scratch/kit/toolchain/bin/clang"
 
 # Runs a command, and shows all that it said where it fails.
 logged() { "$@" > "$scratch/log" 2>&1 || { cat "$scratch/log" && return 1; }; }
@@ -40,7 +41,7 @@ logged() { "$@" > "$scratch/log" 2>&1 || { cat "$scratch/log" && return 1; }; }
 # The crate as the compiler gets it, as text that names no machine.
 module() {
     rm -f "$scratch/module.bc"
-    RATTLE_HOME=$scratch/kit logged rt staticlib "$1"
+    (cd "crates/$1" && logged "$scratch/kit/bin/rt" lib)
     logged "$compiler" -S -emit-llvm -Xclang -disable-llvm-passes -x ir "$scratch/module.bc" -o "$scratch/$1.ll"
     sed -Ei '/^target (datalayout|triple)/d; s/"target-(cpu|features)"="[^"]*"//g' "$scratch/$1.ll"
 }
@@ -66,7 +67,7 @@ look() {
 }
 
 status=0
-look product_test 8
-look embed 8
-look exchange 0
+look product_test_c 8
+look embed_c 8
+look exchange_c 0
 exit $status

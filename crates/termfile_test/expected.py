@@ -88,7 +88,7 @@ for line in open(os.path.join(here, 'stdin')):
 
 source = open(os.path.join(here, 'src', 'main.rt')).read()
 source = re.sub(r'\(\s+', '(', re.sub(r',\s+', ', ', source))
-for kind, name, rest in re.findall(r'\b(nest|changed)\(b"([^"]*)", ([^;]*)\);', source):
+for kind, name, rest in re.findall(r'\b(nest|changed)\(out, b"([^"]*)", ([^;]*)\)\?;', source):
     v = rest.rstrip(', ').split(', ')
     if kind == 'nest': row(name, file_of(*nest(v[0].split('::')[1], int(v[1]), int(v[2]))))
     else:

@@ -10,9 +10,11 @@ ghost use Rattle.std.specs.Prelude.{◌≤◌, length};
 ghost use Rattle.rendering.specs.Promise.{longest_text};
 ghost use Rattle.command.specs.ExitStatus.{ExitStatus};
 
-use libc::{STDIN_FILENO, STDOUT_FILENO};
-use reading::{Input, read_input};
+use reading::read_input;
 use rendering::Rendered;
+use std::fmt::InlineText;
+use std::io;
+use std::io::Read;
 use telling::tell;
 
 // The exit statuses: the answer is written out; the input cannot be read or the output not be written.
@@ -20,43 +22,63 @@ const DONE: i32 = 0;
 
 const FAILED: i32 = 1;
 
-// The lines on standard error; the system's reason follows.
-fn say_unread() {
-    os::fail(b"glow: cannot read the input");
+// The lines on standard error; the system's reason follows. Where a line cannot be written either, the status tells.
+fn say_unread(rt: &impl Eprint, why: io::Error) {
+    let said = InlineText::<256>::of(why);
+    let reason = reason_in(said.as_str());
+    let _ = eprintln!(rt; "glow: cannot read the input: {reason}");
 }
 
-fn say_unwritten() {
-    os::fail(b"glow: cannot write the output");
+fn say_unwritten(rt: &impl Eprint, why: io::Error) {
+    let said = InlineText::<256>::of(why);
+    let reason = reason_in(said.as_str());
+    let _ = eprintln!(rt; "glow: cannot write the output: {reason}");
+}
+
+// The system's words in an error's text, without its number behind them.
+fn reason_in(text: &str) -> &str {
+    match text.split_once(" (os error ") {
+        Some((words, _)) => words,
+        None => text,
+    }
 }
 
 // Reads the file into `buf`, has its lines put into `text`, and writes them at once. As `text` has room for every text, `tell`
 // always writes one.
-fn respond(buf: &mut [u8], text: &mut [u8]) -> i32
+fn respond<R: Print + Eprint, I: Read>(
+    rt: &R,
+    input: &mut I,
+    buf: &mut [u8],
+    text: &mut [u8],
+) -> i32
     requires { longest_text ≤ length text.old }
     ensures { ExitStatus result }
 {
-    let input = read_input(STDIN_FILENO, buf);
-    let Input::Read(length) = input else {
-        say_unread();
-        return FAILED;
+    let length = match read_input(input, buf) {
+        Ok(length) => length,
+        Err(why) => {
+            say_unread(rt, why);
+            return FAILED;
+        }
     };
     let told = tell(&buf[..length], text);
     let Rendered::Written(n) = told else {
         return FAILED;
     };
-    if io::write_all(STDOUT_FILENO, &text[..n]) {
-        return DONE;
+    match rt.write_all(&text[..n]) {
+        Ok(()) => DONE,
+        Err(why) => {
+            say_unwritten(rt, why);
+            FAILED
+        }
     }
-    say_unwritten();
-    FAILED
 }
 
-// The program: what it answers is the exit status. tools/build links it in the place of C's `main`.
-#[unsafe(no_mangle)]
-pub extern "C" fn glow_command() -> i32
+// The program: what it answers is the exit status.
+pub fn glow_command<R: Input + Print + Eprint>(rt: &R) -> i32
     ensures { ExitStatus result }
 {
     let mut file = [0u8; 49157];
     let mut text = [0u8; 115000];
-    respond(&mut file, &mut text)
+    respond(rt, &mut rt.reader(), &mut file, &mut text)
 }

@@ -1,28 +1,21 @@
-// Reading a file descriptor into a buffer, with a failed read told from the end of the input.
+// Reading standard input into a buffer, with a failed read told from the end of the input.
 ghost use Rattle.command.specs.Reading.{Fits};
 
-// What came of it: how many bytes stand at the start of the buffer, or that a read failed.
-#[derive(Clone, Copy)]
-pub enum Input {
-    Read(usize),
-    Failed,
-}
+use std::io;
+use std::io::Read;
 
-// Reads until the buffer is full or the input ends, and no further. The first read that fails ends it too: none is tried again.
-pub fn read_input(fd: i32, buf: &mut [u8]) -> Input
+// Reads until the buffer is full or the input ends, and no further, and answers how many bytes stand at the start of the buffer. The
+// first read that fails ends it too: none is tried again.
+pub fn read_input<R: Read>(input: &mut R, buf: &mut [u8]) -> io::Result<usize>
     ensures { Fits result buf.new }
 {
     let mut done: usize = 0;
     while done < buf.len() {
-        let got = libc::read(fd, &mut buf[done..]);
-        if got < 0 {
-            return Input::Failed;
-        }
-        let more = io::count(got, &buf[done..]);
+        let more = input.read(&mut buf[done..])?;
         if more == 0 {
-            return Input::Read(done);
+            return Ok(done);
         }
         done += more;
     }
-    Input::Read(done)
+    Ok(done)
 }

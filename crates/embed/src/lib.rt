@@ -112,8 +112,7 @@ fn tell(answer: Answer, report: &mut [u64]) -> u32
 }
 
 // Evaluates a term file with the definitions of a prelude, on the machine of this number.
-#[unsafe(no_mangle)]
-pub extern "C" fn glow_evaluate_with(
+pub fn glow_evaluate_with(
     machine: u32,
     prelude: &[u8],
     file: &[u8],
@@ -149,8 +148,7 @@ pub extern "C" fn glow_evaluate_with(
 }
 
 // Evaluates a term file without definitions: as `glow_evaluate_with` with the empty prelude.
-#[unsafe(no_mangle)]
-pub extern "C" fn glow_evaluate(
+pub fn glow_evaluate(
     machine: u32,
     file: &[u8],
     budget: u32,

@@ -8,6 +8,8 @@
 // size (`families::node_in`). `expected.py` works `stdout` out from the paper.
 #![tactic(auto)]
 
+ghost use Rattle.std.specs.Io.{ReadsAtMost};
+
 mod build;
 mod families;
 mod kept;
@@ -16,52 +18,88 @@ mod text;
 
 use build::put_file;
 use kept::{kept_words, stores_kept};
-use libc::STDIN_FILENO;
 use report::write_line;
+use std::io;
+use std::io::Read;
 use text::{budget_of, file_of, fill_of, find, first_round, length_in};
 
-fn main() {
-    let mut text = io::large_buffer();
-    let n = io::read_full(STDIN_FILENO, &mut text);
-    rows(&text[..n]);
+fn main(rt: HostRuntime) -> io::Result<()> {
+    let mut text = [0u8; 65536];
+    let n = read_full(&mut rt.stdin(), &mut text)?;
+    rows(&rt, &text[..n])
+}
+
+// Reads until the buffer is full or the input ends, and answers how many bytes stand at the start of the buffer.
+fn read_full(input: &mut impl Read, buf: &mut [u8]) -> io::Result<usize>
+    ensures { ReadsAtMost result buf.new }
+{
+    let mut done = 0;
+    while done < buf.len() {
+        let n = input.read(&mut buf[done..])?;
+        if n == 0 {
+            break;
+        }
+        done += n;
+    }
+    Ok(done)
 }
 
 // Two lines for each row of a text.
-fn rows(text: &[u8]) {
+fn rows(out: &impl Print, text: &[u8]) -> io::Result<()> {
     let mut at = 0;
     while at < text.len() {
         let end = find(text, at, b'\n');
-        row(&text[at..end]);
+        row(out, &text[at..end])?;
         at = end + 1;
     }
+    Ok(())
 }
 
-fn row(text: &[u8]) {
+fn row(out: &impl Print, text: &[u8]) -> io::Result<()> {
     let colon = find(text, 0, b':');
     let semicolon = find(text, colon, b';');
-    case(&text[0..colon], &text[colon..semicolon], &text[semicolon..]);
+    case(
+        out,
+        &text[0..colon],
+        &text[colon..semicolon],
+        &text[semicolon..],
+    )
 }
 
 // The other run is of (λx. x x) (λx. x x).
-fn case(name: &[u8], numbers: &[u8], text: &[u8]) {
+fn case(out: &impl Print, name: &[u8], numbers: &[u8], text: &[u8]) -> io::Result<()> {
     let mut other = [0u8; 31];
     put_file(b"; f0 a4 l0 a1 v0 v0 l1 a1 v1 v1", &mut other);
     let mut bytes = [0u8; 49160];
     let length = put_file(text, &mut bytes);
-    cut(name, numbers, &other, &bytes, length);
+    cut(out, name, numbers, &other, &bytes, length)
 }
 
 // The first `length` bytes are the row's file.
-fn cut<'a>(name: &[u8], numbers: &[u8], other: &'a [u8], bytes: &'a [u8], length: usize) {
-    if length <= bytes.len() {
-        with_arrays(name, numbers, other, &bytes[0..length]);
+fn cut<'a>(
+    out: &impl Print,
+    name: &[u8],
+    numbers: &[u8],
+    other: &'a [u8],
+    bytes: &'a [u8],
+    length: usize,
+) -> io::Result<()> {
+    if length > bytes.len() {
+        return Ok(());
     }
+    with_arrays(out, name, numbers, other, &bytes[0..length])
 }
 
 // Makes the arrays, longer than any that a row asks for, and the calls: where it is asked for, one that
 // takes much of the stores; the row's; and the row's on what that left. Each call has an output of its
 // own, so that what is told of it is what the call wrote.
-fn with_arrays<'a>(name: &[u8], numbers: &[u8], other: &'a [u8], file: &'a [u8]) {
+fn with_arrays<'a>(
+    out: &impl Print,
+    name: &[u8],
+    numbers: &[u8],
+    other: &'a [u8],
+    file: &'a [u8],
+) -> io::Result<()> {
     let fill = fill_of(numbers);
     let word = fill.word;
     let byte = fill.byte;
@@ -102,8 +140,9 @@ fn with_arrays<'a>(name: &[u8], numbers: &[u8], other: &'a [u8], file: &'a [u8])
         let stores = stores_kept(&tags, &args, &codes, &owns, &nexts, &places, word, byte);
         let same = kept_words(&renumber, 0, word);
         write_line(
-            round, name, fill, answer, stores, same, &out_tags, &out_args,
-        );
+            out, round, name, fill, answer, stores, same, &out_tags, &out_args,
+        )?;
         round += 1;
     }
+    Ok(())
 }

@@ -5,11 +5,12 @@ ghost use Rattle.std.specs.Prelude.{◌≤◌};
 use crate::kept::{kept_bytes, kept_words};
 use crate::text::Fill;
 use evaluator::{Answer, Outcome, Report};
-use libc::STDOUT_FILENO;
+use std::io;
 
 // Writes the line of a call, if it is the row's: told are whether the stores and the renumber store hold
 // what they were filled with.
 pub fn write_line(
+    out: &impl Print,
     round: usize,
     name: &[u8],
     fill: Fill,
@@ -18,40 +19,46 @@ pub fn write_line(
     renumber: bool,
     out_tags: &[u8; 33000],
     out_args: &[u16; 33000],
-) {
+) -> io::Result<()> {
     if round == 0 {
-        return;
+        return Ok(());
     }
-    write_name(round, name);
-    let left = write_answer(answer, out_tags, out_args);
+    write_name(out, round, name)?;
+    let left = write_answer(out, answer, out_tags, out_args)?;
     let from = left.output;
     let output = kept_bytes(out_tags, from, fill.byte) & kept_words(out_args, from, fill.word);
-    write_kept(left, stores | fill.dirty, renumber, output);
+    write_kept(out, left, stores | fill.dirty, renumber, output)
 }
 
-fn write_name(round: usize, name: &[u8]) {
+fn write_name(out: &impl Print, round: usize, name: &[u8]) -> io::Result<()> {
     if round == 2 {
-        io::write_all(STDOUT_FILENO, b"again, ");
+        out.print("again, ")?;
     }
-    io::write_all(STDOUT_FILENO, name);
+    out.write_all(name)
 }
 
 // Writes what must be left as it was, and whether it is so.
-fn write_kept(left: Left, stores: bool, renumber: bool, output: bool) {
+fn write_kept(
+    out: &impl Print,
+    left: Left,
+    stores: bool,
+    renumber: bool,
+    output: bool,
+) -> io::Result<()> {
     let mut kept = output;
-    io::write_all(STDOUT_FILENO, b"; ");
+    out.print("; ")?;
     if left.stores {
         kept = kept & stores;
-        io::write_all(STDOUT_FILENO, b"stores, ");
+        out.print("stores, ")?;
     }
     if left.renumber {
         kept = kept & renumber;
-        io::write_all(STDOUT_FILENO, b"renumber, ");
+        out.print("renumber, ")?;
     }
     if kept {
-        io::write_all(STDOUT_FILENO, b"output kept\n");
+        out.print("output kept\n")
     } else {
-        io::write_all(STDOUT_FILENO, b"output CHANGED\n");
+        out.print("output CHANGED\n")
     }
 }
 
@@ -65,105 +72,114 @@ struct Left {
 }
 
 // A refusal that returns its number alone, and leaves every array as it was.
-fn write_alone(number: u64) -> Left {
-    write_number(b": refused ", number);
-    Left {
+fn write_alone(out: &impl Print, number: u64) -> io::Result<Left> {
+    write_number(out, ": refused ", number)?;
+    Ok(Left {
         stores: true,
         renumber: true,
         output: 0,
-    }
+    })
 }
 
-fn write_answer(answer: Answer, out_tags: &[u8; 33000], out_args: &[u16; 33000]) -> Left {
+fn write_answer(
+    out: &impl Print,
+    answer: Answer,
+    out_tags: &[u8; 33000],
+    out_args: &[u16; 33000],
+) -> io::Result<Left> {
     match answer {
-        Answer::FileRefused(why) => write_alone(termfile::number(why)),
-        Answer::PreludeRefused(why) => write_alone(prelude::number(why)),
-        Answer::Ran(report) => write_report(report, out_tags, out_args),
+        Answer::FileRefused(why) => write_alone(out, termfile::number(why)),
+        Answer::PreludeRefused(why) => write_alone(out, prelude::number(why)),
+        Answer::Ran(report) => write_report(out, report, out_tags, out_args),
     }
 }
 
-fn write_report(report: Report, out_tags: &[u8; 33000], out_args: &[u16; 33000]) -> Left {
+fn write_report(
+    out: &impl Print,
+    report: Report,
+    out_tags: &[u8; 33000],
+    out_args: &[u16; 33000],
+) -> io::Result<Left> {
     let outcome = report.outcome;
-    write_outcome(outcome);
-    write_counts(report);
+    write_outcome(out, outcome)?;
+    write_counts(out, report)?;
     let loading = report.nodes == 0;
     match outcome {
         Outcome::Normal(n) => {
-            io::write_all(STDOUT_FILENO, b",");
-            write_term(out_tags, out_args, n);
-            Left {
+            out.print(",")?;
+            write_term(out, out_tags, out_args, n)?;
+            Ok(Left {
                 stores: loading,
                 renumber: false,
                 output: n,
-            }
+            })
         }
-        _ => Left {
+        _ => Ok(Left {
             stores: loading,
             renumber: true,
             output: 0,
-        },
+        }),
     }
 }
 
-fn write_counts(report: Report) {
-    write_number(b", beta ", report.beta);
-    write_number(b", subst ", report.subst);
-    write_number(b", enter ", report.enter);
-    write_number(b", leave ", report.leave_fun);
-    write_number(b" ", report.leave_inert);
-    write_number(b", store ", report.nodes);
-    write_number(b" ", report.cells);
-    write_number(b" ", report.names);
-    write_number(b", of ", report.subst_allowance);
-    write_number(b" ", report.shift_allowance);
+fn write_counts(out: &impl Print, report: Report) -> io::Result<()> {
+    write_number(out, ", beta ", report.beta)?;
+    write_number(out, ", subst ", report.subst)?;
+    write_number(out, ", enter ", report.enter)?;
+    write_number(out, ", leave ", report.leave_fun)?;
+    write_number(out, " ", report.leave_inert)?;
+    write_number(out, ", store ", report.nodes)?;
+    write_number(out, " ", report.cells)?;
+    write_number(out, " ", report.names)?;
+    write_number(out, ", of ", report.subst_allowance)?;
+    write_number(out, " ", report.shift_allowance)
 }
 
-fn write_outcome(outcome: Outcome) {
+fn write_outcome(out: &impl Print, outcome: Outcome) -> io::Result<()> {
     match outcome {
-        Outcome::Normal(n) => {
-            write_number(b": normal ", n as u64);
-        }
-        Outcome::Spent => {
-            io::write_all(STDOUT_FILENO, b": spent");
-        }
-        Outcome::Refused(why) => {
-            write_number(b": refused ", evaluator::number(why));
-        }
+        Outcome::Normal(n) => write_number(out, ": normal ", n as u64),
+        Outcome::Spent => out.print(": spent"),
+        Outcome::Refused(why) => write_number(out, ": refused ", evaluator::number(why)),
     }
 }
 
-fn write_number(before: &[u8], number: u64) {
-    io::write_all(STDOUT_FILENO, before);
-    io::print_decimal(STDOUT_FILENO, number);
+fn write_number(out: &impl Print, before: &str, number: u64) -> io::Result<()> {
+    out.print(before)?;
+    out.print(number)
 }
 
 // Writes a term of n nodes: the nodes as the paper writes them, or a digest of more than 70.
-fn write_term(out_tags: &[u8; 33000], out_args: &[u16; 33000], n: usize) {
+fn write_term(
+    out: &impl Print,
+    out_tags: &[u8; 33000],
+    out_args: &[u16; 33000],
+    n: usize,
+) -> io::Result<()> {
     if n > 33000 {
-        return;
+        return Ok(());
     }
     if n > 70 {
-        write_digest(digest(out_tags, out_args, n));
-        return;
+        return write_digest(out, digest(out_tags, out_args, n));
     }
     let mut i = 0;
     while i < n {
-        write_node(out_tags[i], out_args[i]);
+        write_node(out, out_tags[i], out_args[i])?;
         i += 1;
     }
+    Ok(())
 }
 
-fn write_digest(sum: u64) {
-    write_number(b" digest ", sum);
+fn write_digest(out: &impl Print, sum: u64) -> io::Result<()> {
+    write_number(out, " digest ", sum)
 }
 
-fn write_node(tag: u8, argument: u16) {
+fn write_node(out: &impl Print, tag: u8, argument: u16) -> io::Result<()> {
     let number = argument as u64;
     match tag {
-        0 => write_number(b" v", number),
-        1 => write_number(b" l", number),
-        2 => write_number(b" a", number),
-        _ => write_number(b" ?", number),
+        0 => write_number(out, " v", number),
+        1 => write_number(out, " l", number),
+        2 => write_number(out, " a", number),
+        _ => write_number(out, " ?", number),
     }
 }
 

@@ -33,8 +33,7 @@ fn write_converted(answer: Converted, report: &mut [u64]) -> u32
     }
 }
 
-#[unsafe(no_mangle)]
-pub extern "C" fn glow_import(bits: &[u8], f: u32, out: &mut [u8], report: &mut [u64]) -> u32
+pub fn glow_import(bits: &[u8], f: u32, out: &mut [u8], report: &mut [u64]) -> u32
     ensures { Exchanged (imported f bits.now) result out.old out.new report.old report.new }
 {
     if report.len() < 2 {
@@ -44,8 +43,7 @@ pub extern "C" fn glow_import(bits: &[u8], f: u32, out: &mut [u8], report: &mut 
     write_converted(answer, report)
 }
 
-#[unsafe(no_mangle)]
-pub extern "C" fn glow_export(file: &[u8], out: &mut [u8], report: &mut [u64]) -> u32
+pub fn glow_export(file: &[u8], out: &mut [u8], report: &mut [u64]) -> u32
     ensures { Exchanged (exported file.now) result out.old out.new report.old report.new }
 {
     if report.len() < 2 {

@@ -1,6 +1,11 @@
-// The program as rt builds it. The language's `main` has no result, so the status is always 0 here: tools/build links `glow_command` itself.
+// The program: its exit status is what the command answers.
 #![tactic(auto)]
 
-fn main() {
-    let _status = command::glow_command();
+use std::process::ExitCode;
+
+fn main(rt: HostRuntime) -> ExitCode {
+    match command::glow_command(&rt) {
+        0 => ExitCode::SUCCESS,
+        _ => ExitCode::FAILURE,
+    }
 }

@@ -3,15 +3,13 @@
 
 ghost use Rattle.std.specs.Prelude.{◌≡◌, ◌+◌, ◌*◌};
 
-#[unsafe(no_mangle)]
-pub extern "C" fn product_of(a: u32, b: u32) -> u64
+pub fn product_of(a: u32, b: u32) -> u64
     ensures { result ≡ a * b }
 {
     product::product(a, b)
 }
 
-#[unsafe(no_mangle)]
-pub extern "C" fn allowance_of(b: u32, count: u32) -> u64
+pub fn allowance_of(b: u32, count: u32) -> u64
     ensures { result ≡ (1 + b) * count }
 {
     product::allowance(b, count)

@@ -1,37 +1,33 @@
 // A line for each file checked: its name and the answer.
-use libc::STDOUT_FILENO;
+use std::io;
 use termfile::{Checked, Counts};
 
 // Checks the first `length` bytes as a file and writes the line.
-pub fn line(name: &[u8], bytes: &[u8], length: usize) {
-    io::write_all(STDOUT_FILENO, name);
-    if length <= bytes.len() {
-        answer(&bytes[..length]);
+pub fn line(out: &impl Print, name: &[u8], bytes: &[u8], length: usize) -> io::Result<()> {
+    out.write_all(name)?;
+    if length > bytes.len() {
+        return Ok(());
     }
+    answer(out, &bytes[..length])
 }
 
-fn answer(file: &[u8]) {
+fn answer(out: &impl Print, file: &[u8]) -> io::Result<()> {
     match termfile::check(file) {
-        Checked::Accepted(counts) => {
-            write_counts(counts);
-        }
-        Checked::Refused(refusal) => {
-            io::write_all(STDOUT_FILENO, b": refused ");
-            io::print_decimal(STDOUT_FILENO, termfile::number(refusal));
-        }
+        Checked::Accepted(counts) => write_counts(out, counts)?,
+        Checked::Refused(refusal) => write_number(out, ": refused ", termfile::number(refusal))?,
     }
-    io::write_all(STDOUT_FILENO, b"\n");
+    out.print("\n")
 }
 
-fn write_counts(counts: Counts) {
-    write_number(b": accepted, f ", counts.free);
-    write_number(b", n ", counts.nodes);
-    write_number(b", abstractions ", counts.abstractions);
-    write_number(b", variables ", counts.variables);
-    write_number(b", applications ", counts.applications);
+fn write_counts(out: &impl Print, counts: Counts) -> io::Result<()> {
+    write_number(out, ": accepted, f ", counts.free as u64)?;
+    write_number(out, ", n ", counts.nodes as u64)?;
+    write_number(out, ", abstractions ", counts.abstractions as u64)?;
+    write_number(out, ", variables ", counts.variables as u64)?;
+    write_number(out, ", applications ", counts.applications as u64)
 }
 
-fn write_number(before: &[u8], number: usize) {
-    io::write_all(STDOUT_FILENO, before);
-    io::print_decimal(STDOUT_FILENO, number as u64);
+fn write_number(out: &impl Print, before: &str, number: u64) -> io::Result<()> {
+    out.print(before)?;
+    out.print(number)
 }

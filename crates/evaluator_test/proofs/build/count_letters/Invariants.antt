@@ -1,0 +1,9 @@
+-- No more letters are counted than bytes passed.
+use Rattle.std.proofs.Common.{◌≤◌, ◌-◌, length}
+use Rattle.evaluator_test.proofs.build.count_letters.Given as goal
+
+abbrev pub invariant-loop-i : goal.invariant-loop-i
+invariant-loop-i l = (l.letters ≤ l.i) × (l.i ≤ length l.text)
+
+abbrev pub decreases-loop-i : goal.decreases-loop-i
+decreases-loop-i l = length l.text - l.i

@@ -1,0 +1,9 @@
+-- The loop ends at the last node.
+use Rattle.std.proofs.Common.{◌≤◌, ◌-◌}
+use Rattle.evaluator_test.proofs.report.write_term.Given as goal
+
+abbrev pub invariant-loop-i : goal.invariant-loop-i
+invariant-loop-i g l = l.i ≤ l.n
+
+abbrev pub decreases-loop-i : goal.decreases-loop-i
+decreases-loop-i g l = l.n - l.i
