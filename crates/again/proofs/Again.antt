@@ -132,6 +132,8 @@ refusals-same e = cc
 change-told : {first second : Call} (q : Answer)
     → raising.MayChange first.budget second.budget (stores_in first.before) (stores_in second.before) (told q) → MayAnswerElse first second q
 change-told (Ran r) (raising.was_spent _ e l) = was_spent r (sym (outcome-from r.outcome) ∙ ap outcome_from e) l
+change-told (FileRefused k) h = elim h [ ]
+change-told (PreludeRefused k) h = elim h [ ]
 change-told {first} {second} (Ran r) (raising.was_refused _ k e l) = go r.outcome refl
   where
     go : (o : Outcome) → r.outcome ≡ o → MayAnswerElse first second (Ran r)

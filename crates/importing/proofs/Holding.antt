@@ -1,7 +1,7 @@
 -- The nodes up to a place: how many they are, and how they go on where a term ends there. The idea: a term that ends is the last part of the
 -- term around it, up to an application whose left part it ends, which is the top of the open ones, or to the whole.
 -- Assumes nothing.
-use Prim.Native.Nat.{ℕ, suc, ◌+◌, ◌-◌, ◌≤◌, ◌<◌}
+use Prim.Native.Nat.{ℕ, suc, ◌+◌, ◌≤◌, ◌<◌}
 use mathlib.Core.Path.{◌≡◌, refl, sym, ap, ◌∙◌}
 use mathlib.Core.List.{List, [], ◌∷◌, ◌++◌, map, map-append, append_assoc}
 use native.Mathlib.Omega.{arith}

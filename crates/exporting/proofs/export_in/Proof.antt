@@ -63,17 +63,17 @@ slice-reshare-prefix-write-bits c = search rules
 slice-aggregate-write-bits : tie.Need-slice_bounds-write_bits-end-3
 slice-aggregate-write-bits c =
     let p = c.before.before.before.before.before.before.before.before.before.before.before.before.before.before.before.before.before.before.requires.1 in
-    sym (length-take-le _ _ (omega (arith, p.indices_long, c.before.before.before.before.before.before.before.before.before.measure-bits.auto.1.1.1.0)))
+    sym (length-take-le _ _ (omega (arith, p.indices_long, c.before.before.before.before.before.before.before.before.before.measure-bits.auto.indices)))
 
 write-bits-requires : tie.Need-write_bits-requires
 write-bits-requires c κs =
     let a = c.before.before.before.before.before.before.before.before.before.before.before.before.before.before.before.before.before.before.args in
     let p = c.before.before.before.before.before.before.before.before.before.before.before.before.before.before.before.before.before.before.requires.1 in
     let m = c.before.before.before.before.before.before.before.before.before.measure-bits.ensures p.code p.coded in
-    let long = c.before.before.before.before.before.before.before.before.before.measure-bits.auto.1.1.1.0 in
+    let long = c.before.before.before.before.before.before.before.before.before.measure-bits.auto.indices in
     let tags_long = length-tags a.file.now (exact p.coded.framed) in
     let same = tags-part p.coded.framed in
-    let bits-same = ap (λ ts. tokens ts (take a.n c.before.before.before.before.before.before.before.before.before.measure-bits.new.1.1.1.0)) same ∙ m.bits_are in (
+    let bits-same = ap (λ ts. tokens ts (take a.n c.before.before.before.before.before.before.before.before.before.measure-bits.new.indices)) same ∙ m.bits_are in (
       ap length same ∙ tags_long ∙ sym p.coded.framed.count ∙ sym (length-take-le _ _ (omega (arith, p.indices_long, long))),
       omega (arith, ap length bits-same, m.count, c.before.before.if-out-bytes.false),
     )
@@ -90,14 +90,14 @@ same-length-6 c = search rules
 same-length-7 : tie.Need-shape_of-out
 same-length-7 c = search rules
 
-returns-2 : tie.Need-returns-then-out-bytes
+returns-2 : tie.Need-returns
 returns-2 c =
-    let a = c.before.before.before.before.before.before.before.before.before.before.before.before.before.before.before.before.args in
-    let p = c.before.before.before.before.before.before.before.before.before.before.before.before.before.before.before.before.requires.1 in
+    let a = c.before.before.before.before.before.before.before.before.before.before.before.before.before.before.before.before.before.before.before.before.before.args in
+    let p = c.before.before.before.before.before.before.before.before.before.before.before.before.before.before.before.before.before.before.before.before.before.requires.1 in
     let m = c.before.before.before.before.before.before.before.before.before.before.before.before.measure-bits.ensures p.code p.coded in
-    let e = bits-exported a.file.now p.code c.before.before.before.before.before.before.before.before.before.before.before.before.before.before.before.before.requires.0 p.coded.nodes_are in
+    let e = bits-exported a.file.now p.code c.before.before.before.before.before.before.before.before.before.before.before.before.before.before.before.before.before.before.before.before.before.requires.0 p.coded.nodes_are in
     let n = length-pack (bits 0 (term_of p.code)) in
-    let bits-same = ap (λ ts. tokens ts (take a.n c.before.before.before.before.before.before.before.before.before.before.before.before.measure-bits.new.1.1.1.0)) (tags-part p.coded.framed) ∙ m.bits_are in
+    let bits-same = ap (λ ts. tokens ts (take a.n c.before.before.before.before.before.before.before.before.before.before.before.before.measure-bits.new.indices)) (tags-part p.coded.framed) ∙ m.bits_are in
     converts-written a.out.now e _ _ (omega (arith, n, m.count, c.before.before.before.before.before.if-out-bytes.false)) (omega (arith, n, m.count))
     (c.before.before.write_bits.ensures ∙ ap (λ bs. overlay (pack bs) a.out.now) bits-same)
 

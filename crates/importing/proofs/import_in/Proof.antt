@@ -4,7 +4,6 @@ use mathlib.Core.Path.{sym, ap, ◌∙◌, subst}
 use native.Mathlib.Omega.{arith}
 use lib.Seq.{length-take-le}
 use borrow.Author.Rules.{rules}
-use borrow.Author.Tests.{not-true, not-false}
 use Rattle.termfile.specs.Output.{overlay}
 use Rattle.binary.specs.declared.Refusal.TheVariants.{Ends, Padding, Range}
 use Rattle.binary.proofs.Answers.{converts-refused, converts-short, converts-written}
@@ -16,11 +15,11 @@ use Rattle.importing.proofs.import_in.Tie as tie
 -- the term that was read
 read_here : (c : tie.In-Read)
     → let a = c.before.before.before.before.before.before.before.before.before.before.before.before.before.before.before.before.before.before.before.before.args in let last = c.before.before.before.before.before.before.before.before.before.scan.new in
-    ReadTo a.f a.bits.now c.in-Read.n c.in-Read.rest last.1.1.0 last.1.1.1.0
+    ReadTo a.f a.bits.now c.in-Read.n c.in-Read.rest last.tags last.args
 read_here c =
     let a = c.before.before.before.before.before.before.before.before.before.before.before.before.before.before.before.before.before.before.before.before.args in
     let last = c.before.before.before.before.before.before.before.before.before.scan.new in
-    subst (Scans a.f a.bits.now last.1.1.0 last.1.1.1.0) c.in-Read.is c.before.before.before.before.before.before.before.before.before.scan.ensures
+    subst (Scans a.f a.bits.now last.tags last.args) c.in-Read.is c.before.before.before.before.before.before.before.before.before.scan.ensures
 
 scan-requires : tie.Need-scan-requires
 scan-requires c κs = search rules

@@ -7,7 +7,6 @@ use mathlib.Core.List.{List}
 use mathlib.Core.Option.{none}
 use native.Mathlib.Omega.{arith}
 use borrow.Author.Rules.{rules}
-use borrow.Author.Tests.{not-true, not-false}
 use Rattle.prelude.specs.Prelude.{definition_files, whole_for, each_refusal, all_abstractions, sums}
 use Rattle.prelude.specs.Answer.{told}
 use Rattle.prelude.specs.Passes.{Cut}

@@ -5,7 +5,6 @@ use Prim.Native.Nat.{ℕ}
 use mathlib.Core.Path.{◌≡◌, sym, ◌∙◌}
 use mathlib.Core.Bool.{true}
 use mathlib.Core.List.{List}
-use borrow.Author.Tests.{not-true, not-false}
 use Rattle.termfile.specs.File.{code_of, one_term, refusal}
 use Rattle.termfile.proofs.Refusals.{node_tests, headed-refusal}
 use Rattle.termfile.proofs.Outcome.{failed-scope}

@@ -132,7 +132,7 @@ loop-again-2 c =
     let r = c.before.before.pass_abstraction-walk in (
       omega arith,
       (inv.1.0, r.auto.levels ∙ inv.1.1, inv.1.2),
-      λ d h. walks-as r.ensures.level refl r.ensures.at (abstraction-here c.before.before.before.before d h).again,
+      λ d h. walks-as r.ensures.1 refl r.ensures.0 (abstraction-here c.before.before.before.before d h).again,
     )
 
 pass-application-requires : tie.Need-pass_application-walk-requires invariant-loop decreases-loop
@@ -150,7 +150,7 @@ loop-again-3 c =
     let r = c.before.before.pass_application-walk in (
       omega arith,
       (inv.1.0, inv.1.1, r.auto.depths ∙ inv.1.2),
-      λ d h. walks-as refl r.ensures.level r.ensures.at (application-here c.before.before.before.before d h).again,
+      λ d h. walks-as refl r.ensures.1 r.ensures.0 (application-here c.before.before.before.before d h).again,
     )
 
 same_length : tie.Need-shape_of-indices invariant-loop decreases-loop

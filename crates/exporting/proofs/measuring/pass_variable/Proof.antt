@@ -28,7 +28,7 @@ cast-t12 c = omega (arith, c.shared_slice_known-1.given (c.before.before.before.
 returns : tie.Need-returns-then-pending-gt0
 returns c = rw (lt-ltb _ _ c.before.if-pending-gt0.true)
 
-returns-2 : tie.Need-returns-then-pending-gt0
+returns-2 : tie.Need-returns
 returns-2 c = rw (le-ltb _ _ c.if-pending-gt0.false)
 
 pub pass_variable_spec : {M : Type 1} → statement M

@@ -24,7 +24,7 @@ add-t10 c = search rules
 same_length : tie.Need-shape_of-out
 same_length c = search rules
 
-returns-2 : tie.Need-returns-then-count-lt8
+returns-2 : tie.Need-returns
 returns-2 c =
     let a = c.before.before.before.args in
     let p = c.before.before.before.requires in

@@ -40,7 +40,7 @@ loop-again c =
     let r = c.before.before.put_bit-p in
     (omega arith, r.auto.out ∙ l.invariant.1, puts-as (ones-snoc l.i) (puts_then (replicate l.i true) (true ∷ []) l.invariant.2 r.ensures))
 
-put-bit-requires-2 : tie.Need-put_bit-p-requires invariant-loop decreases-loop
+put-bit-requires-2 : tie.Need-put_bit-requires invariant-loop decreases-loop
 put-bit-requires-2 c κs =
     let l = c.before.before.loop-i in
     (omega arith, record { few = l.invariant.2.moved.few; fits = omega (arith, l.invariant.1, l.invariant.2.moved.far, length-replicate l.i true, c.before.before.before.before.requires.fits) })

@@ -27,11 +27,11 @@ put-bit-requires c κs =
     let p = c.before.before.before.requires in
     (omega arith, record { few = p.few; fits = omega (arith, p.fits, ap length e) })
 
-put-bit-requires-2 : tie.Need-put_bit-first-requires
+put-bit-requires-2 : tie.Need-put_bit-requires
 put-bit-requires-2 c κs =
-    let a = c.before.before.before.args in
+    let a = c.before.before.before.before.before.before.before.args in
     let e = ap (λ t. token t a.k) c.before.before.before.before.before.in-1.is in
-    let p = c.before.before.before.requires in
+    let p = c.before.before.before.before.before.before.before.requires in
     let r = c.before.before.before.put_bit-first in
     (omega arith, record { few = r.ensures.moved.few; fits = omega (arith, p.fits, ap length e, r.ensures.moved.far, r.auto.out) })
 

@@ -18,16 +18,16 @@ enum_told : tie.Need-enum_told-1
 enum_told c = search rules
 
 returns : tie.Need-returns-in_default
-returns c = index-cut (subst (Run _ _) c.in_default.is c.before.pass_ones.ensures)
+returns c = index-cut (subst (Run c.before.before.before.args.bits.now c.before.before.before.args.c) c.in_default.is c.before.pass_ones.ensures)
 
 sub-bytes : tie.Need-overflow_sub-bytes
 sub-bytes c =
-    let w = subst (Run _ _) c.before.before.in-Until.is c.before.before.before.pass_ones.ensures in
+    let w = subst (Run c.before.before.before.before.before.args.bits.now c.before.before.before.before.before.args.c) c.before.before.in-Until.is c.before.before.before.pass_ones.ensures in
     w.2.forth
 
 returns-2 : tie.Need-returns-then-bytes-gt8192
 returns-2 c =
-    let w = subst (Run _ _) c.before.before.before.in-Until.is c.before.before.before.before.pass_ones.ensures in
+    let w = subst (Run c.before.before.before.before.before.before.args.bits.now c.before.before.before.before.before.before.args.c) c.before.before.before.in-Until.is c.before.before.before.before.pass_ones.ensures in
     index-far _ _ _ w _ (omega (arith, w.2.far, w.2.sound)) (omega arith)
 
 mul-t7 : tie.Need-overflow_mul-result
@@ -44,17 +44,17 @@ cast-t10 c = search rules
 
 sub-t11 : tie.Need-overflow_sub-result
 sub-t11 c =
-    let w = subst (Run _ _) c.before.before.before.before.before.in-Until.is c.before.before.before.before.before.before.pass_ones.ensures in
+    let w = subst (Run c.before.before.before.before.before.before.before.before.args.bits.now c.before.before.before.before.before.before.before.before.args.c) c.before.before.before.before.before.in-Until.is c.before.before.before.before.before.before.pass_ones.ensures in
     omega (arith, w.2.far, w.2.forth)
 
 sub-t12 : tie.Need-overflow_sub-result-2
 sub-t12 c =
-    let w = subst (Run _ _) c.before.before.before.before.before.in-Until.is c.before.before.before.before.before.before.pass_ones.ensures in
+    let w = subst (Run c.before.before.before.before.before.before.before.before.args.bits.now c.before.before.before.before.before.before.before.before.args.c) c.before.before.before.before.before.in-Until.is c.before.before.before.before.before.before.pass_ones.ensures in
     omega (arith, w.2.far, w.2.forth)
 
 returns-3 : tie.Need-returns
 returns-3 c =
-    let w = subst (Run _ _) c.before.before.before.before.before.in-Until.is c.before.before.before.before.before.before.pass_ones.ensures in
+    let w = subst (Run c.before.before.before.before.before.before.before.before.args.bits.now c.before.before.before.before.before.before.before.before.args.c) c.before.before.before.before.before.in-Until.is c.before.before.before.before.before.before.pass_ones.ensures in
     index-near _ _ _ w _ (omega (arith, w.2.far, w.2.forth))
 
 pub read_index_spec : {M : Type 1} → statement M

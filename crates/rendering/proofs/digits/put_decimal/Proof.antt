@@ -12,75 +12,75 @@ use Rattle.rendering.proofs.Putting.{sets_last}
 use Rattle.rendering.proofs.digits.put_decimal.Statement.{statement}
 use Rattle.rendering.proofs.digits.put_decimal.Tie as tie
 
-abbrev invariant-loop : tie.invariant-loop
+abbrev invariant-loop : tie.invariant-loop-rest
 invariant-loop out₀ at n end rest₀ i₀ out rest i =
     (i ≡ at + length (decimal rest)) × (i ≤ length out₀) × (length out ≡ length out₀) × (sets out at (decimal rest) ≡ sets out₀ at (decimal n))
 
-abbrev decreases-loop : tie.decreases-loop
+abbrev decreases-loop : tie.decreases-loop-rest
 decreases-loop out₀ at n end rest₀ i₀ out rest i = rest
 
 width-requires : tie.Need-width-requires invariant-loop decreases-loop
 width-requires c κs = search rules
 
-add-end : tie.Need-overflow-add-end invariant-loop decreases-loop
+add-end : tie.Need-overflow_add-end invariant-loop decreases-loop
 add-end c = omega arith
 
-loop-holds : tie.Need-loop-init invariant-loop decreases-loop
+loop-holds : tie.Need-loop-rest-init invariant-loop decreases-loop
 loop-holds c = (ap (λ k. c.before.before.args.at + k) c.width.ensures.0, omega arith, refl, refl)
 
-sub-i : tie.Need-overflow-sub-i invariant-loop decreases-loop
-sub-i c = omega (arith, decimal-length-above c.before.loop.rest c.loop-test.true)
+sub-i : tie.Need-overflow_sub-i invariant-loop decreases-loop
+sub-i c = omega (arith, decimal-length-above c.before.loop-rest.rest c.loop-rest-test.true)
 
-cast-out : tie.Need-overflow-cast-out invariant-loop decreases-loop
+cast-out : tie.Need-overflow_cast-out invariant-loop decreases-loop
 cast-out c = omega arith
 
-add-out : tie.Need-overflow-add-out invariant-loop decreases-loop
+add-out : tie.Need-overflow_add-out invariant-loop decreases-loop
 add-out c = omega arith
 
-slice-write-out : tie.Need-slice-write-out invariant-loop decreases-loop
-slice-write-out c = omega (arith, decimal-length-above c.before.loop.rest c.loop-test.true)
+slice-write-out : tie.Need-bounds-out-i invariant-loop decreases-loop
+slice-write-out c = omega (arith, decimal-length-above c.before.loop-rest.rest c.loop-rest-test.true)
 
-loop-less : tie.Need-loop-smaller invariant-loop decreases-loop
+loop-less : tie.Need-loop-rest-smaller invariant-loop decreases-loop
 loop-less c = omega arith
 
-loop-again : tie.Need-loop-preserved invariant-loop decreases-loop
+loop-again : tie.Need-loop-rest-preserved invariant-loop decreases-loop
 loop-again c =
     let at = c.before.before.before.before.args.at in
-    let loop = c.before.loop in
-    let shorter = decimal-length-above loop.rest c.loop-test.true in
+    let loop = c.before.loop-rest in
+    let shorter = decimal-length-above loop.rest c.loop-rest-test.true in
     let i-is : loop.i - 1 ≡ at + length (decimal (loop.rest / 10)) = omega (arith, shorter) in (
       i-is,
       omega arith,
       simp length-set loop.invariant.2,
       ap (λ k. sets (set loop.out k (digit (loop.rest % 10))) at (decimal (loop.rest / 10))) i-is
           ∙ sets_last (decimal (loop.rest / 10)) (digit (loop.rest % 10)) at loop.out
-          ∙ ap (sets loop.out at) (sym (decimal-above loop.rest c.loop-test.true))
+          ∙ ap (sets loop.out at) (sym (decimal-above loop.rest c.loop-rest-test.true))
           ∙ loop.invariant.3,
     )
 
-cast-out-2 : tie.Need-overflow-cast-out-2 invariant-loop decreases-loop
+cast-out-2 : tie.Need-overflow_cast-out-2 invariant-loop decreases-loop
 cast-out-2 c = omega arith
 
-add-out-2 : tie.Need-overflow-add-out-2 invariant-loop decreases-loop
+add-out-2 : tie.Need-overflow_add-out-2 invariant-loop decreases-loop
 add-out-2 c = omega arith
 
-slice-write-out-2 : tie.Need-slice-write-out-2 invariant-loop decreases-loop
-slice-write-out-2 c = omega (arith, decimal-length-below c.before.loop.rest (omega arith))
+slice-write-out-2 : tie.Need-bounds-out-at invariant-loop decreases-loop
+slice-write-out-2 c = omega (arith, decimal-length-below c.before.loop-rest.rest (omega arith))
 
-same_length : tie.Need-same-length invariant-loop decreases-loop
-same_length c = simp length-set c.before.loop.invariant.2
+same_length : tie.Need-shape_of-out invariant-loop decreases-loop
+same_length c = simp length-set c.before.loop-rest.invariant.2
 
 returns : tie.Need-returns invariant-loop decreases-loop
 returns c =
     let args = c.before.before.before.before.args in
-    let loop = c.before.loop in
+    let loop = c.before.loop-rest in
     record {
       next_is = ap (λ k. args.at + k) c.before.before.width.ensures.0;
-      array_is = ap (sets loop.out args.at) (sym (decimal-below loop.rest c.loop-test.false)) ∙ loop.invariant.3;
+      array_is = ap (sets loop.out args.at) (sym (decimal-below loop.rest c.loop-rest-test.false)) ∙ loop.invariant.3;
     }
 
-pub put-decimal-spec : {M : Type 1} → statement M
-put-decimal-spec =
+pub put_decimal_spec : {M : Type 1} → statement M
+put_decimal_spec =
     tie.close
     (tie.spec
     invariant-loop

@@ -9,28 +9,28 @@ use Rattle.rendering.proofs.Decimal.{decimal-length-four, decimal-few}
 use Rattle.rendering.proofs.digits.width.Statement.{statement}
 use Rattle.rendering.proofs.digits.width.Tie as tie
 
-abbrev invariant-loop : tie.invariant-loop
+abbrev invariant-loop : tie.invariant-loop-rest
 invariant-loop n rest₀ count₀ rest count = (count + length (decimal rest) ≡ length (decimal n)) × (length (decimal n) ≤ 20)
 
-abbrev decreases-loop : tie.decreases-loop
+abbrev decreases-loop : tie.decreases-loop-rest
 decreases-loop n rest₀ count₀ rest count = rest
 
-loop-holds : tie.Need-loop-init invariant-loop decreases-loop
+loop-holds : tie.Need-loop-rest-init invariant-loop decreases-loop
 loop-holds c = (omega arith, decimal-few 19 c.args.n (omega arith))
 
-add-count : tie.Need-overflow-add-count invariant-loop decreases-loop
+add-count : tie.Need-overflow_add-count invariant-loop decreases-loop
 add-count c = omega arith
 
-loop-less : tie.Need-loop-smaller invariant-loop decreases-loop
+loop-less : tie.Need-loop-rest-smaller invariant-loop decreases-loop
 loop-less c = omega arith
 
-loop-again : tie.Need-loop-preserved invariant-loop decreases-loop
-loop-again c = let loop = c.before.loop in (omega (arith, decimal-length-four loop.rest c.loop-test.true), loop.invariant.1)
+loop-again : tie.Need-loop-rest-preserved invariant-loop decreases-loop
+loop-again c = let loop = c.before.loop-rest in (omega (arith, decimal-length-four loop.rest c.loop-rest-test.true), loop.invariant.1)
 
-width-below-requires : tie.Need-width-below-requires invariant-loop decreases-loop
+width-below-requires : tie.Need-width_below-requires invariant-loop decreases-loop
 width-below-requires c κs = omega arith
 
-add-result : tie.Need-overflow-add-result invariant-loop decreases-loop
+add-result : tie.Need-overflow_add-result invariant-loop decreases-loop
 add-result c = omega arith
 
 returns : tie.Need-returns invariant-loop decreases-loop

@@ -11,57 +11,57 @@ use Rattle.rendering.proofs.TermLine.{bytes_next}
 use Rattle.rendering.proofs.nodes.nodes_bytes.Statement.{statement}
 use Rattle.rendering.proofs.nodes.nodes_bytes.Tie as tie
 
-abbrev invariant-loop : tie.invariant-loop
+abbrev invariant-loop : tie.invariant-loop-i
 invariant-loop args bytes₀ i₀ bytes i = (i ≤ length args) × (bytes + nodes_bytes (drop i args) ≡ nodes_bytes args) × (bytes ≤ 7 * i)
 
-abbrev decreases-loop : tie.decreases-loop
+abbrev decreases-loop : tie.decreases-loop-i
 decreases-loop args bytes₀ i₀ bytes i = length args - i
 
-loop-holds : tie.Need-loop-init invariant-loop decreases-loop
+loop-holds : tie.Need-loop-i-init invariant-loop decreases-loop
 loop-holds c = (omega arith, omega arith, omega arith)
 
-mul-width : tie.Need-overflow-mul-width invariant-loop decreases-loop
+mul-width : tie.Need-offset_bounds-args-i invariant-loop decreases-loop
 mul-width c = omega arith
 
-shared-slice-read-width : tie.Need-shared-slice-read-width invariant-loop decreases-loop
+shared-slice-read-width : tie.Need-bounds-args-i invariant-loop decreases-loop
 shared-slice-read-width c = omega arith
 
-cast-width : tie.Need-overflow-cast-width invariant-loop decreases-loop
-cast-width c = omega (arith, c.shared-slice-known2.given c.before.before.loop.i)
+cast-width : tie.Need-overflow_cast-args invariant-loop decreases-loop
+cast-width c = omega (arith, c.shared_slice_known-in-loop-i-1.given c.before.before.loop-i.i)
 
 width-requires : tie.Need-width-requires invariant-loop decreases-loop
 width-requires c κs = search rules
 
-add-bytes : tie.Need-overflow-add-bytes invariant-loop decreases-loop
+add-bytes : tie.Need-overflow_add-bytes invariant-loop decreases-loop
 add-bytes c = omega arith
 
-add-bytes-2 : tie.Need-overflow-add-bytes-2 invariant-loop decreases-loop
+add-bytes-2 : tie.Need-overflow_add-bytes-in-loop-i invariant-loop decreases-loop
 add-bytes-2 c = omega arith
 
-add-i : tie.Need-overflow-add-i invariant-loop decreases-loop
+add-i : tie.Need-overflow_add-i invariant-loop decreases-loop
 add-i c = omega arith
 
-loop-less : tie.Need-loop-smaller invariant-loop decreases-loop
+loop-less : tie.Need-loop-i-smaller invariant-loop decreases-loop
 loop-less c = omega arith
 
-loop-again : tie.Need-loop-preserved invariant-loop decreases-loop
+loop-again : tie.Need-loop-i-preserved invariant-loop decreases-loop
 loop-again c =
     let args = c.before.before.before.before.before.args.args.now in
-    let i = c.before.before.before.loop.i in
+    let i = c.before.before.before.loop-i.i in
     let m = get_or args i 0 in (
       omega arith,
-      omega (arith, bytes_next args i c.before.before.loop-test.true, c.width.ensures.0),
-      omega (arith, c.width.ensures.0, decimal-few 4 m (omega (arith, c.before.shared-slice-known2.given i))),
+      omega (arith, bytes_next args i c.before.before.loop-i-test.true, c.width.ensures.0),
+      omega (arith, c.width.ensures.0, decimal-few 4 m (omega (arith, c.before.shared_slice_known-in-loop-i-1.given i))),
     )
 
 returns : tie.Need-returns invariant-loop decreases-loop
 returns c =
     let args = c.before.before.before.args.args.now in
-    let loop = c.before.loop in
-    (omega (arith, ap nodes_bytes (drop_of_length-le args c.loop-test.false)), omega arith)
+    let loop = c.before.loop-i in
+    (omega (arith, ap nodes_bytes (drop_of_length-le args c.loop-i-test.false)), omega arith)
 
-pub nodes-bytes-spec : {M : Type 1} → statement M
-nodes-bytes-spec =
+pub nodes_bytes_spec : {M : Type 1} → statement M
+nodes_bytes_spec =
     tie.close
     (tie.spec
     invariant-loop

@@ -8,29 +8,29 @@ use Rattle.rendering.proofs.Putting.{put_then, put_as}
 use Rattle.rendering.proofs.nodes.put_node.Statement.{statement}
 use Rattle.rendering.proofs.nodes.put_node.Tie as tie
 
-put-byte-requires : tie.Need-put-byte-requires
+put-byte-requires : tie.Need-put_byte-word-requires
 put-byte-requires c κs = search rules
 
-letter-of-requires : tie.Need-letter-of-requires
+letter-of-requires : tie.Need-letter_of-requires
 letter-of-requires c κs = search rules
 
-put-byte-requires-2 : tie.Need-put-byte-requires-2
+put-byte-requires-2 : tie.Need-put_byte-next-requires
 put-byte-requires-2 c κs = search rules
 
-put-decimal-requires : tie.Need-put-decimal-requires
+put-decimal-requires : tie.Need-put_decimal-requires
 put-decimal-requires c κs = search rules
 
-same_length : tie.Need-same-length
+same_length : tie.Need-shape_of-out
 same_length c = search rules
 
 returns : tie.Need-returns
 returns c =
     let s = c.before.before.before.before.before.before.before.before.before.before.before.before.before.before in
-    put_as (ap (λ k. 32 ∷ k ∷ decimal s.args.argument) (sym c.before.before.before.before.before.before.before.letter-of.ensures))
-    (put_then (put_then c.before.before.before.before.before.before.before.before.before.before.before.put_byte.ensures c.before.before.before.before.before.before.put-byte2.ensures) c.before.before.put-decimal.ensures)
+    put_as (ap (λ k. 32 ∷ k ∷ decimal s.args.argument) (sym c.before.before.before.before.before.before.before.letter_of.ensures))
+    (put_then (put_then c.before.before.before.before.before.before.before.before.before.before.before.put_byte-word.ensures c.before.before.before.before.before.before.put_byte-next.ensures) c.before.before.put_decimal.ensures)
 
-pub put-node-spec : {M : Type 1} → statement M
-put-node-spec =
+pub put_node_spec : {M : Type 1} → statement M
+put_node_spec =
     tie.close
     (tie.spec
     put-byte-requires

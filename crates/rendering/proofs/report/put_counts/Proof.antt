@@ -33,72 +33,56 @@ store s = store_line s.args.r.nodes s.args.r.cells s.args.r.names
 room : (s : tie.Start) → Room (beta s ++ subst s ++ enter s ++ leave s ++ shift s ++ store s) s.args.at s.args.out.now
 room s = room_as (counts-pieces (told_report s.args.r) s.args.shifts s.requires.0) s.requires.1
 
-slice-aggregate-put-count : tie.Need-slice-aggregate-put-count
-slice-aggregate-put-count c = search rules
+put-count-requires : tie.Need-put_count-subst-requires
+put-count-requires c κs = let s = c.before.before.before.before in room-first (subst s) (room-first (enter s) (room-first (leave s) (room-first (shift s) (room-first (store s) (room s)))))
 
-put-count-requires : tie.Need-put-count-requires
-put-count-requires c κs = let s = c.before.before.before in room-first (subst s) (room-first (enter s) (room-first (leave s) (room-first (shift s) (room-first (store s) (room s)))))
-
-slice-aggregate-put-allowed : tie.Need-slice-aggregate-put-allowed
-slice-aggregate-put-allowed c = search rules
-
-put-allowed-requires : tie.Need-put-allowed-requires
+put-allowed-requires : tie.Need-put_allowed-enter-requires
 put-allowed-requires c κs =
-    let s = c.before.before.before.before.before.before.before.before in
+    let s = c.before.before.before.before.before.before.before.before.before.before in
     room_next (room-first (enter s) (room-first (leave s) (room-first (shift s) (room-first (store s) (room s)))))
-    c.before.before.before.before.put_count.ensures
+    c.before.before.before.before.before.put_count-subst.ensures
 
-slice-aggregate-put-count-2 : tie.Need-slice-aggregate-put-count-2
-slice-aggregate-put-count-2 c = search rules
-
-put-count-requires-2 : tie.Need-put-count-requires-2
+put-count-requires-2 : tie.Need-put_count-leave-requires
 put-count-requires-2 c κs =
-    let s = c.before.before.before.before.before.before.before.before.before.before.before.before.before in
+    let s = c.before.before.before.before.before.before.before.before.before.before.before.before.before.before.before.before in
     room_next (room-first (leave s) (room-first (shift s) (room-first (store s) (room s))))
-    (put_then c.before.before.before.before.before.before.before.before.before.put_count.ensures c.before.before.before.before.put-allowed.ensures)
+    (put_then c.before.before.before.before.before.before.before.before.before.before.before.put_count-subst.ensures c.before.before.before.before.before.put_allowed-enter.ensures)
 
-put-leave-requires : tie.Need-put-leave-requires
+put-leave-requires : tie.Need-put_leave-shift-requires
 put-leave-requires c κs =
-    let s = c.before.before.before.before.before.before.before.before.before.before.before.before.before.before.before.before.before in
+    let s = c.before.before.before.before.before.before.before.before.before.before.before.before.before.before.before.before.before.before.before.before in
     room_next (room-first (shift s) (room-first (store s) (room s)))
-    (put_then (put_then c.before.before.before.before.before.before.before.before.before.before.before.before.before.put_count.ensures c.before.before.before.before.before.before.before.before.put-allowed.ensures) c.before.before.before.put-count2.ensures)
+    (put_then (put_then c.before.before.before.before.before.before.before.before.before.before.before.before.before.before.before.put_count-subst.ensures c.before.before.before.before.before.before.before.before.before.put_allowed-enter.ensures) c.before.before.before.put_count-leave.ensures)
 
-slice-aggregate-put-allowed-2 : tie.Need-slice-aggregate-put-allowed-2
-slice-aggregate-put-allowed-2 c = search rules
-
-put-allowed-requires-2 : tie.Need-put-allowed-requires-2
+put-allowed-requires-2 : tie.Need-put_allowed-store-requires
 put-allowed-requires-2 c κs =
-    let s = c.before.before.before.before.before.before.before.before.before.before.before.before.before.before.before.before.before.before.before.before.before.before in
-    room_next (room-first (store s) (room s))
-    (put_then (put_then (put_then c.before.before.before.before.before.before.before.before.before.before.before.before.before.before.before.before.before.before.put_count.ensures c.before.before.before.before.before.before.before.before.before.before.before.before.before.put-allowed.ensures) c.before.before.before.before.before.before.before.before.put-count2.ensures) c.before.before.before.before.put-leave.ensures)
-
-put-store-requires : tie.Need-put-store-requires
-put-store-requires c κs =
     let s = c.before.before.before.before.before.before.before.before.before.before.before.before.before.before.before.before.before.before.before.before.before.before.before.before.before.before in
-    room_next (room s)
-    (put_then (put_then (put_then (put_then c.before.before.before.before.before.before.before.before.before.before.before.before.before.before.before.before.before.before.before.before.before.before.put_count.ensures c.before.before.before.before.before.before.before.before.before.before.before.before.before.before.before.before.before.put-allowed.ensures) c.before.before.before.before.before.before.before.before.before.before.before.before.put-count2.ensures) c.before.before.before.before.before.before.before.before.put-leave.ensures) c.before.before.before.put-allowed2.ensures)
+    room_next (room-first (store s) (room s))
+    (put_then (put_then (put_then c.before.before.before.before.before.before.before.before.before.before.before.before.before.before.before.before.before.before.before.before.before.put_count-subst.ensures c.before.before.before.before.before.before.before.before.before.before.before.before.before.before.before.put_allowed-enter.ensures) c.before.before.before.before.before.before.before.before.before.put_count-leave.ensures) c.before.before.before.before.before.put_leave-shift.ensures)
 
-same_length : tie.Need-same-length
+put-store-requires : tie.Need-put_store-requires
+put-store-requires c κs =
+    let s = c.before.before.before.before.before.before.before.before.before.before.before.before.before.before.before.before.before.before.before.before.before.before.before.before.before.before.before.before.before.before in
+    room_next (room s)
+    (put_then (put_then (put_then (put_then c.before.before.before.before.before.before.before.before.before.before.before.before.before.before.before.before.before.before.before.before.before.before.before.before.before.put_count-subst.ensures c.before.before.before.before.before.before.before.before.before.before.before.before.before.before.before.before.before.before.before.put_allowed-enter.ensures) c.before.before.before.before.before.before.before.before.before.before.before.before.before.put_count-leave.ensures) c.before.before.before.before.before.before.before.before.before.put_leave-shift.ensures) c.before.before.before.put_allowed-store.ensures)
+
+same_length : tie.Need-shape_of-out
 same_length c = search rules
 
 returns : tie.Need-returns
 returns c =
-    let s = c.before.before.before.before.before.before.before.before.before.before.before.before.before.before.before.before.before.before.before.before.before.before.before.before.before.before.before.before.before in
+    let s = c.before.before.before.before.before.before.before.before.before.before.before.before.before.before.before.before.before.before.before.before.before.before.before.before.before.before.before.before.before.before.before.before.before in
     put_as (counts-pieces (told_report s.args.r) s.args.shifts s.requires.0)
-    (put_then (put_then (put_then (put_then (put_then c.before.before.before.before.before.before.before.before.before.before.before.before.before.before.before.before.before.before.before.before.before.before.before.before.before.put_count.ensures c.before.before.before.before.before.before.before.before.before.before.before.before.before.before.before.before.before.before.before.before.put-allowed.ensures) c.before.before.before.before.before.before.before.before.before.before.before.before.before.before.before.put-count2.ensures) c.before.before.before.before.before.before.before.before.before.before.before.put-leave.ensures) c.before.before.before.before.before.before.put-allowed2.ensures) c.before.before.put-store.ensures)
+    (put_then (put_then (put_then (put_then (put_then c.before.before.before.before.before.before.before.before.before.before.before.before.before.before.before.before.before.before.before.before.before.before.before.before.before.before.before.before.put_count-subst.ensures c.before.before.before.before.before.before.before.before.before.before.before.before.before.before.before.before.before.before.before.before.before.before.put_allowed-enter.ensures) c.before.before.before.before.before.before.before.before.before.before.before.before.before.before.before.before.put_count-leave.ensures) c.before.before.before.before.before.before.before.before.before.before.before.before.put_leave-shift.ensures) c.before.before.before.before.before.before.put_allowed-store.ensures) c.before.before.put_store.ensures)
 
-pub put-counts-spec : {M : Type 1} → statement M
-put-counts-spec =
+pub put_counts_spec : {M : Type 1} → statement M
+put_counts_spec =
     tie.close
     (tie.spec
-    slice-aggregate-put-count
     put-count-requires
-    slice-aggregate-put-allowed
     put-allowed-requires
-    slice-aggregate-put-count-2
     put-count-requires-2
     put-leave-requires
-    slice-aggregate-put-allowed-2
     put-allowed-requires-2
     put-store-requires
     same_length

@@ -17,59 +17,55 @@ room : (s : tie.Start) (n : ℕ) → s.args.outcome ≡ Normal n
     → Room (ascii "term" ++ nodes_text s.args.tags.now s.args.args.now ++ (10 ∷ [])) s.args.at s.args.out.now
 room s n e = room_as (ap (λ o. term_line (told_outcome o) (pairs s.args.tags.now s.args.args.now)) e) s.requires.1
 
-enum_told : tie.Need-enum-told
+enum_told : tie.Need-enum_told-1
 enum_told c = search rules
 
-slice-aggregate-put-bytes : tie.Need-slice-aggregate-put-bytes
-slice-aggregate-put-bytes c = search rules
-
-put-bytes-requires : tie.Need-put-bytes-requires
+put-bytes-requires : tie.Need-put_bytes-nodes-requires
 put-bytes-requires c κs =
     let s = c.before.before.before.before.before.before.before in
-    room-first (nodes_text s.args.tags.now s.args.args.now) (room-first (10 ∷ []) (room s _ c.before.before.enum_told.given.1))
+    room-first (nodes_text s.args.tags.now s.args.args.now) (room-first (10 ∷ []) (room s _ c.before.before.before.in-Normal.is))
 
-put-nodes-requires : tie.Need-put-nodes-requires
+put-nodes-requires : tie.Need-put_nodes-end-requires
 put-nodes-requires c κs =
     let s = c.before.before.before.before.before.before.before.before.before.before.before in
-    (s.requires.0, room_next (room-first (10 ∷ []) (room s _ c.before.before.before.before.before.before.enum_told.given.1)) c.before.before.before.put-bytes.ensures)
+    (s.requires.0, room_next (room-first (10 ∷ []) (room s _ c.before.before.before.before.before.before.before.in-Normal.is)) c.before.before.before.put_bytes-nodes.ensures)
 
-put-byte-requires : tie.Need-put-byte-requires
+put-byte-requires : tie.Need-put_byte-requires
 put-byte-requires c κs =
-    room_next (room c.before.before.before.before.before.before.before.before.before.before.before.before.before.before.before _ c.before.before.before.before.before.before.before.before.before.before.enum_told.given.1) (put_then c.before.before.before.before.before.before.before.put-bytes.ensures c.before.before.before.put-nodes.ensures)
+    room_next (room c.before.before.before.before.before.before.before.before.before.before.before.before.before.before.before _ c.before.before.before.before.before.before.before.before.before.before.before.in-Normal.is) (put_then c.before.before.before.before.before.before.before.put_bytes-nodes.ensures c.before.before.before.put_nodes-end.ensures)
 
-enum-told-2 : tie.Need-enum-told-2
+enum-told-2 : tie.Need-enum_told-in-Spent
 enum-told-2 c = search rules
 
-enum-told-3 : tie.Need-enum-told-3
+enum-told-3 : tie.Need-enum_told-in-Refused
 enum-told-3 c = search rules
 
-same_length : tie.Need-same-length
+same_length : tie.Need-shape_of-out
 same_length c = search rules
 
-returns : tie.Need-returns
+returns : tie.Need-returns-in-Normal
 returns c =
     let s = c.before.before.before.before.before.before.before.before.before.before.before.before.before.before.before.before.before.before in
-    put_as (ap (λ o. term_line (told_outcome o) (pairs s.args.tags.now s.args.args.now)) c.before.before.before.before.before.before.before.before.before.before.before.before.before.enum_told.given.1)
-    (put_then (put_then c.before.before.before.before.before.before.before.before.before.before.put-bytes.ensures c.before.before.before.before.before.before.put-nodes.ensures) c.before.before.put_byte.ensures)
+    put_as (ap (λ o. term_line (told_outcome o) (pairs s.args.tags.now s.args.args.now)) c.before.before.before.before.before.before.before.before.before.before.before.before.before.before.in-Normal.is)
+    (put_then (put_then c.before.before.before.before.before.before.before.before.before.before.put_bytes-nodes.ensures c.before.before.before.before.before.before.put_nodes-end.ensures) c.before.before.put_byte.ensures)
 
-returns-2 : tie.Need-returns-2
+returns-2 : tie.Need-returns-in-Spent
 returns-2 c =
-    let s = c.before.before.before.before.before in
-    put_as (ap (λ o. term_line (told_outcome o) (pairs s.args.tags.now s.args.args.now)) c.enum-told2.given.1)
+    let s = c.before.before.before.before in
+    put_as (ap (λ o. term_line (told_outcome o) (pairs s.args.tags.now s.args.args.now)) c.in-Spent.is)
     put-nothing
 
-returns-3 : tie.Need-returns-3
+returns-3 : tie.Need-returns-in-Refused
 returns-3 c =
-    let s = c.before.before.before.before.before in
-    put_as (ap (λ o. term_line (told_outcome o) (pairs s.args.tags.now s.args.args.now)) c.enum-told3.given.1)
+    let s = c.before.before.before.before in
+    put_as (ap (λ o. term_line (told_outcome o) (pairs s.args.tags.now s.args.args.now)) c.in-Refused.is)
     put-nothing
 
-pub put-term-spec : {M : Type 1} → statement M
-put-term-spec =
+pub put_term_spec : {M : Type 1} → statement M
+put_term_spec =
     tie.close
     (tie.spec
     enum_told
-    slice-aggregate-put-bytes
     put-bytes-requires
     put-nodes-requires
     put-byte-requires

@@ -11,47 +11,47 @@ use Rattle.rendering.proofs.TermLine.{term-length}
 use Rattle.rendering.proofs.report.term_bytes.Statement.{statement}
 use Rattle.rendering.proofs.report.term_bytes.Tie as tie
 
-enum_told : tie.Need-enum-told
+enum_told : tie.Need-enum_told-1
 enum_told c = search rules
 
-nodes-bytes-requires : tie.Need-nodes-bytes-requires
+nodes-bytes-requires : tie.Need-nodes_bytes-requires
 nodes-bytes-requires c κs = search rules
 
-add-result : tie.Need-overflow-add-result
+add-result : tie.Need-overflow_add-result
 add-result c = search rules
 
-enum-told-2 : tie.Need-enum-told-2
+enum-told-2 : tie.Need-enum_told-in-Spent
 enum-told-2 c = search rules
 
-enum-told-3 : tie.Need-enum-told-3
+enum-told-3 : tie.Need-enum_told-in-Refused
 enum-told-3 c = search rules
 
-returns : tie.Need-returns
+returns : tie.Need-returns-in-Normal
 returns c = (
   λ tags e.
       omega (
         arith,
-        c.nodes-bytes.ensures.0,
-        term-length tags c.before.before.before.before.args.args.now e,
-        ap (λ o. length (term_line (told_outcome o) (pairs tags c.before.before.before.before.args.args.now))) c.before.enum_told.given.1,
+        c.nodes_bytes.ensures.0,
+        term-length tags c.before.before.before.args.args.now e,
+        ap (λ o. length (term_line (told_outcome o) (pairs tags c.before.before.before.args.args.now))) c.before.in-Normal.is,
       ),
   omega arith,
 )
 
-returns-2 : tie.Need-returns-2
+returns-2 : tie.Need-returns-in-Spent
 returns-2 c = (
-  λ tags e. sym (ap (λ o. length (term_line (told_outcome o) (pairs tags c.before.before.before.args.args.now))) c.enum-told2.given.1),
+  λ tags e. sym (ap (λ o. length (term_line (told_outcome o) (pairs tags c.before.before.args.args.now))) c.in-Spent.is),
   omega arith,
 )
 
-returns-3 : tie.Need-returns-3
+returns-3 : tie.Need-returns-in-Refused
 returns-3 c = (
-  λ tags e. sym (ap (λ o. length (term_line (told_outcome o) (pairs tags c.before.before.before.args.args.now))) c.enum-told3.given.1),
+  λ tags e. sym (ap (λ o. length (term_line (told_outcome o) (pairs tags c.before.before.args.args.now))) c.in-Refused.is),
   omega arith,
 )
 
-pub term-bytes-spec : {M : Type 1} → statement M
-term-bytes-spec =
+pub term_bytes_spec : {M : Type 1} → statement M
+term_bytes_spec =
     tie.close
     (tie.spec
     enum_told

@@ -13,27 +13,24 @@ use Rattle.rendering.proofs.words.put_allowed.Tie as tie
 room : (s : tie.Start) → Room (named s.args.word.now s.args.n ++ named (ascii " of") s.args.allowance ++ (10 ∷ [])) s.args.at s.args.out.now
 room s = room_as (allowed-pieces s.args.word.now s.args.n s.args.allowance) s.requires
 
-put-named-requires : tie.Need-put-named-requires
+put-named-requires : tie.Need-put_named-of-requires
 put-named-requires c κs = let s = c.before.before.before in room-first (named (ascii " of") s.args.allowance) (room-first (10 ∷ []) (room s))
 
-slice-aggregate-put-named : tie.Need-slice-aggregate-put-named
-slice-aggregate-put-named c = search rules
+put-named-requires-2 : tie.Need-put_named-next-requires
+put-named-requires-2 c κs = room_next (room-first (10 ∷ []) (room c.before.before.before.before.before.before.before.before.before)) c.before.before.before.before.before.put_named-of.ensures
 
-put-named-requires-2 : tie.Need-put-named-requires-2
-put-named-requires-2 c κs = room_next (room-first (10 ∷ []) (room c.before.before.before.before.before.before.before.before)) c.before.before.before.before.put-named.ensures
+put-byte-requires : tie.Need-put_byte-requires
+put-byte-requires c κs = room_next (room c.before.before.before.before.before.before.before.before.before.before.before.before.before) (put_then c.before.before.before.before.before.before.before.before.before.put_named-of.ensures c.before.before.before.put_named-next.ensures)
 
-put-byte-requires : tie.Need-put-byte-requires
-put-byte-requires c κs = room_next (room c.before.before.before.before.before.before.before.before.before.before.before.before) (put_then c.before.before.before.before.before.before.before.before.put-named.ensures c.before.before.before.put-named2.ensures)
-
-same_length : tie.Need-same-length
+same_length : tie.Need-shape_of-out
 same_length c = search rules
 
 returns : tie.Need-returns
 returns c =
-    let s = c.before.before.before.before.before.before.before.before.before.before.before.before.before.before.before in
+    let s = c.before.before.before.before.before.before.before.before.before.before.before.before.before.before.before.before in
     put_as (allowed-pieces s.args.word.now s.args.n s.args.allowance)
-    (put_then (put_then c.before.before.before.before.before.before.before.before.before.before.before.put-named.ensures c.before.before.before.before.before.before.put-named2.ensures) c.before.before.put_byte.ensures)
+    (put_then (put_then c.before.before.before.before.before.before.before.before.before.before.before.before.put_named-of.ensures c.before.before.before.before.before.before.put_named-next.ensures) c.before.before.put_byte.ensures)
 
-pub put-allowed-spec : {M : Type 1} → statement M
-put-allowed-spec =
-    tie.close (tie.spec put-named-requires slice-aggregate-put-named put-named-requires-2 put-byte-requires same_length returns)
+pub put_allowed_spec : {M : Type 1} → statement M
+put_allowed_spec =
+    tie.close (tie.spec put-named-requires put-named-requires-2 put-byte-requires same_length returns)

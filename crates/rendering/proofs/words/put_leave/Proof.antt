@@ -14,26 +14,23 @@ use Rattle.rendering.proofs.words.put_leave.Tie as tie
 room : (s : tie.Start) → Room (named (ascii "leave") s.args.fun ++ (32 ∷ decimal s.args.inert) ++ (10 ∷ [])) s.args.at s.args.out.now
 room s = room_as (leave-pieces s.args.fun s.args.inert) s.requires
 
-slice-aggregate-put-named : tie.Need-slice-aggregate-put-named
-slice-aggregate-put-named c = search rules
+put-named-requires : tie.Need-put_named-second-requires
+put-named-requires c κs = let s = c.before.before.before.before in room-first (32 ∷ decimal s.args.inert) (room-first (10 ∷ []) (room s))
 
-put-named-requires : tie.Need-put-named-requires
-put-named-requires c κs = let s = c.before.before.before in room-first (32 ∷ decimal s.args.inert) (room-first (10 ∷ []) (room s))
+put-number-requires : tie.Need-put_number-next-requires
+put-number-requires c κs = room_next (room-first (10 ∷ []) (room c.before.before.before.before.before.before.before.before)) c.before.before.before.put_named-second.ensures
 
-put-number-requires : tie.Need-put-number-requires
-put-number-requires c κs = room_next (room-first (10 ∷ []) (room c.before.before.before.before.before.before.before)) c.before.before.before.put-named.ensures
+put-byte-requires : tie.Need-put_byte-requires
+put-byte-requires c κs = room_next (room c.before.before.before.before.before.before.before.before.before.before.before.before) (put_then c.before.before.before.before.before.before.before.put_named-second.ensures c.before.before.before.put_number-next.ensures)
 
-put-byte-requires : tie.Need-put-byte-requires
-put-byte-requires c κs = room_next (room c.before.before.before.before.before.before.before.before.before.before.before) (put_then c.before.before.before.before.before.before.before.put-named.ensures c.before.before.before.put-number.ensures)
-
-same_length : tie.Need-same-length
+same_length : tie.Need-shape_of-out
 same_length c = search rules
 
 returns : tie.Need-returns
 returns c =
-    let s = c.before.before.before.before.before.before.before.before.before.before.before.before.before.before in
+    let s = c.before.before.before.before.before.before.before.before.before.before.before.before.before.before.before in
     put_as (leave-pieces s.args.fun s.args.inert)
-    (put_then (put_then c.before.before.before.before.before.before.before.before.before.before.put-named.ensures c.before.before.before.before.before.before.put-number.ensures) c.before.before.put_byte.ensures)
+    (put_then (put_then c.before.before.before.before.before.before.before.before.before.before.put_named-second.ensures c.before.before.before.before.before.before.put_number-next.ensures) c.before.before.put_byte.ensures)
 
-pub put-leave-spec : {M : Type 1} → statement M
-put-leave-spec = tie.close (tie.spec slice-aggregate-put-named put-named-requires put-number-requires put-byte-requires same_length returns)
+pub put_leave_spec : {M : Type 1} → statement M
+put_leave_spec = tie.close (tie.spec put-named-requires put-number-requires put-byte-requires same_length returns)

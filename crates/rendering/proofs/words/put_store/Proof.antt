@@ -15,35 +15,32 @@ room : (s : tie.Start)
     → Room (named (ascii "store") s.args.nodes ++ (32 ∷ decimal s.args.cells) ++ (32 ∷ decimal s.args.names) ++ (10 ∷ [])) s.args.at s.args.out.now
 room s = room_as (store-pieces s.args.nodes s.args.cells s.args.names) s.requires
 
-slice-aggregate-put-named : tie.Need-slice-aggregate-put-named
-slice-aggregate-put-named c = search rules
-
-put-named-requires : tie.Need-put-named-requires
+put-named-requires : tie.Need-put_named-second-requires
 put-named-requires c κs =
-    let s = c.before.before.before in room-first (32 ∷ decimal s.args.cells) (room-first (32 ∷ decimal s.args.names) (room-first (10 ∷ []) (room s)))
+    let s = c.before.before.before.before in room-first (32 ∷ decimal s.args.cells) (room-first (32 ∷ decimal s.args.names) (room-first (10 ∷ []) (room s)))
 
-put-number-requires : tie.Need-put-number-requires
+put-number-requires : tie.Need-put_number-third-requires
 put-number-requires c κs =
-    let s = c.before.before.before.before.before.before.before in room_next (room-first (32 ∷ decimal s.args.names) (room-first (10 ∷ []) (room s))) c.before.before.before.put-named.ensures
+    let s = c.before.before.before.before.before.before.before.before in room_next (room-first (32 ∷ decimal s.args.names) (room-first (10 ∷ []) (room s))) c.before.before.before.put_named-second.ensures
 
-put-number-requires-2 : tie.Need-put-number-requires-2
+put-number-requires-2 : tie.Need-put_number-next-requires
 put-number-requires-2 c κs =
-    room_next (room-first (10 ∷ []) (room c.before.before.before.before.before.before.before.before.before.before.before)) (put_then c.before.before.before.before.before.before.before.put-named.ensures c.before.before.before.put-number.ensures)
+    room_next (room-first (10 ∷ []) (room c.before.before.before.before.before.before.before.before.before.before.before.before)) (put_then c.before.before.before.before.before.before.before.put_named-second.ensures c.before.before.before.put_number-third.ensures)
 
-put-byte-requires : tie.Need-put-byte-requires
+put-byte-requires : tie.Need-put_byte-requires
 put-byte-requires c κs =
-    room_next (room c.before.before.before.before.before.before.before.before.before.before.before.before.before.before.before) (put_then (put_then c.before.before.before.before.before.before.before.before.before.before.before.put-named.ensures c.before.before.before.before.before.before.before.put-number.ensures) c.before.before.before.put-number2.ensures)
+    room_next (room c.before.before.before.before.before.before.before.before.before.before.before.before.before.before.before.before) (put_then (put_then c.before.before.before.before.before.before.before.before.before.before.before.put_named-second.ensures c.before.before.before.before.before.before.before.put_number-third.ensures) c.before.before.before.put_number-next.ensures)
 
-same_length : tie.Need-same-length
+same_length : tie.Need-shape_of-out
 same_length c = search rules
 
 returns : tie.Need-returns
 returns c =
-    let s = c.before.before.before.before.before.before.before.before.before.before.before.before.before.before.before.before.before.before in
+    let s = c.before.before.before.before.before.before.before.before.before.before.before.before.before.before.before.before.before.before.before in
     put_as (store-pieces s.args.nodes s.args.cells s.args.names)
-    (put_then (put_then (put_then c.before.before.before.before.before.before.before.before.before.before.before.before.before.before.put-named.ensures c.before.before.before.before.before.before.before.before.before.before.put-number.ensures) c.before.before.before.before.before.before.put-number2.ensures) c.before.before.put_byte.ensures)
+    (put_then (put_then (put_then c.before.before.before.before.before.before.before.before.before.before.before.before.before.before.put_named-second.ensures c.before.before.before.before.before.before.before.before.before.before.put_number-third.ensures) c.before.before.before.before.before.before.put_number-next.ensures) c.before.before.put_byte.ensures)
 
-pub put-store-spec : {M : Type 1} → statement M
-put-store-spec =
+pub put_store_spec : {M : Type 1} → statement M
+put_store_spec =
     tie.close
-    (tie.spec slice-aggregate-put-named put-named-requires put-number-requires put-number-requires-2 put-byte-requires same_length returns)
+    (tie.spec put-named-requires put-number-requires put-number-requires-2 put-byte-requires same_length returns)

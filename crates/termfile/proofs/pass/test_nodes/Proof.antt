@@ -4,7 +4,7 @@
 use Prim.Native.Nat.{◌+◌, ◌-◌, ◌*◌}
 use mathlib.Core.Path.{◌≡◌, refl, sym, ◌∙◌}
 use lib.ListN.{length, length-set}
-use borrow.Author.Tests.{eq-eqb, ne_eqb, not-true, not-false}
+use borrow.Author.Tests.{eq-eqb, ne_eqb}
 use Rattle.termfile.proofs.Frame.{argument-at, exact}
 use Rattle.termfile.proofs.Turn.{Passing, Turn, passing-start, passing-end, end-most, due-more, apart}
 use Rattle.termfile.proofs.Turn.{fails-end, fails-scope, fails-name, fails-left, fails-tag, variable-next, binder-next, application-next}
