@@ -6,6 +6,7 @@ use Rattle.embed.specs.Embedding.{named_by, status_of, numbers_of}
 use Rattle.embed.specs.declared.Named.TheVariants.{Known}
 use Rattle.embed.proofs.Embeds.{embeds-unknown, embeds-short, embeds-called}
 use borrow.Author.Rules.{rules}
+use native.Mathlib.Omega.{arith}
 use Rattle.embed.proofs.glow_evaluate_with.Statement.{statement}
 use Rattle.embed.proofs.glow_evaluate_with.Tie as tie
 
@@ -17,8 +18,8 @@ named-is d = sym d.before.machine_of-named.ensures ∙ d.in-Known.is
 abbrev evaluated : tie.After-tell → tie.After-evaluate_with-answer
 evaluated c = c.before.before.before.before.before.before.before.before.before.before.before.before.before.before.before.before.before.before.before.before
 
-abbrev asked : tie.After-evaluate_with-answer → tie.Else-report-lt12
-asked d = d.before.before.before.before.before.before.before.before.before.before
+abbrev asked : tie.After-evaluate_with-answer → tie.In-Known
+asked d = d.before.before.before.before.before.before.before.before.before.before.before
 
 machine-of-requires : tie.Need-machine_of-named-requires
 machine-of-requires c κs = tt
@@ -32,14 +33,11 @@ enum_told c = search rules
 returns : tie.Need-returns-in_default
 returns c = embeds-unknown (sym c.before.machine_of-named.ensures ∙ c.in_default.is)
 
-returns-2 : tie.Need-returns-then-report-lt12
-returns-2 c = embeds-short (named-is c.before) c.if-report-lt12.true
-
 evaluate-with-requires : tie.Need-evaluate_with-answer-requires
 evaluate-with-requires c κs = tt
 
 tell-requires : tie.Need-tell-requires
-tell-requires c κs = (asked c.before.before.before.before.before.before.before.before.before.before.before.before.before.before.before.before.before.before.before).if-report-lt12.false
+tell-requires c κs = omega arith
 
 same_length : tie.Need-shape_of-tags
 same_length c = (evaluated c.before.before).evaluate_with-answer.auto.tags
@@ -77,8 +75,8 @@ returns-3 c =
     let d = evaluated t in
     let a = asked d in
     let w = d.evaluate_with-answer.ensures.1 in
-    let r = a.before.before.before.before.before.before.before.before.before.before.before.before.before.before.before.args.report.now in
-    embeds-called (named-is a.before) a.if-report-lt12.false d.evaluate_with-answer.result w (t.tell.ensures.0 ∙ ap status_of w.answer_is)
+    let r = a.before.before.before.before.before.before.before.before.before.before.before.before.before.before.args.report.now in
+    embeds-called (named-is a) (omega arith) d.evaluate_with-answer.result w (t.tell.ensures.0 ∙ ap status_of w.answer_is)
     (t.tell.ensures.1 ∙ ap (λ v. overlay (numbers_of v) r) w.answer_is)
 
 pub glow_evaluate_with_spec : {M : Type 1} → statement M
@@ -89,7 +87,7 @@ glow_evaluate_with_spec =
     enum-known-named
     enum_told
     returns
-    returns-2
+    (λ c. embeds-short (named-is c.before) (omega arith))
     evaluate-with-requires
     tell-requires
     same_length

@@ -27,24 +27,6 @@ add-bytes c =
     let m = c.before.before.before.before.before.before.measure-bits.ensures p.code p.coded in
     omega (arith, m.few, p.coded.framed.most)
 
-same_length : tie.Need-shape_of-indices-then-out-bytes
-same_length c = search rules
-
-same-length-2 : tie.Need-shape_of-levels-then-out-bytes
-same-length-2 c = search rules
-
-same-length-3 : tie.Need-shape_of-depths-then-out-bytes
-same-length-3 c = search rules
-
-returns : tie.Need-returns-then-out-bytes
-returns c =
-    let a = c.before.before.before.before.before.before.before.before.before.before.before.before.before.before.before.before.args in
-    let p = c.before.before.before.before.before.before.before.before.before.before.before.before.before.before.before.before.requires.1 in
-    let m = c.before.before.before.before.before.before.before.measure-bits.ensures p.code p.coded in
-    let e = bits-exported a.file.now p.code c.before.before.before.before.before.before.before.before.before.before.before.before.before.before.before.before.requires.0 p.coded.nodes_are in
-    let n = length-pack (bits 0 (term_of p.code)) in
-    converts-short a.out.now e (omega (arith, n, m.count, c.if-out-bytes.true))
-
 add-end : tie.Need-overflow_add-end
 add-end c = search rules
 
@@ -75,7 +57,7 @@ write-bits-requires c κs =
     let same = tags-part p.coded.framed in
     let bits-same = ap (λ ts. tokens ts (take a.n c.before.before.before.before.before.before.before.before.before.measure-bits.new.indices)) same ∙ m.bits_are in (
       ap length same ∙ tags_long ∙ sym p.coded.framed.count ∙ sym (length-take-le _ _ (omega (arith, p.indices_long, long))),
-      omega (arith, ap length bits-same, m.count, c.before.before.if-out-bytes.false),
+      omega (arith, ap length bits-same, m.count),
     )
 
 same-length-4 : tie.Need-shape_of-indices
@@ -98,7 +80,7 @@ returns-2 c =
     let e = bits-exported a.file.now p.code c.before.before.before.before.before.before.before.before.before.before.before.before.before.before.before.before.before.before.before.before.before.requires.0 p.coded.nodes_are in
     let n = length-pack (bits 0 (term_of p.code)) in
     let bits-same = ap (λ ts. tokens ts (take a.n c.before.before.before.before.before.before.before.before.before.before.before.before.measure-bits.new.indices)) (tags-part p.coded.framed) ∙ m.bits_are in
-    converts-written a.out.now e _ _ (omega (arith, n, m.count, c.before.before.before.before.before.if-out-bytes.false)) (omega (arith, n, m.count))
+    converts-written a.out.now e _ _ (omega (arith, n, m.count)) (omega (arith, n, m.count))
     (c.before.before.write_bits.ensures ∙ ap (λ bs. overlay (pack bs) a.out.now) bits-same)
 
 pub export_in_spec : {M : Type 1} → statement M
@@ -107,10 +89,16 @@ export_in_spec =
     (tie.spec
     measure-requires
     add-bytes
-    same_length
-    same-length-2
-    same-length-3
-    returns
+    (λ c. search rules)
+    (λ c. search rules)
+    (λ c. search rules)
+    (λ c.
+    let a = c.before.before.before.before.before.before.before.before.before.before.before.before.before.before.before.before.args in
+    let p = c.before.before.before.before.before.before.before.before.before.before.before.before.before.before.before.before.requires.1 in
+    let m = c.before.before.before.before.before.before.before.measure-bits.ensures p.code p.coded in
+    let e = bits-exported a.file.now p.code c.before.before.before.before.before.before.before.before.before.before.before.before.before.before.before.before.requires.0 p.coded.nodes_are in
+    let n = length-pack (bits 0 (term_of p.code)) in
+    converts-short a.out.now e (omega (arith, n, m.count)))
     add-end
     sub-write-bits
     part-write-bits-start

@@ -68,27 +68,6 @@ add-bytes c = omega (arith, (read_here c.before.before).few)
 cast-bytes-2 : tie.Need-overflow_cast-bytes-in-Read
 cast-bytes-2 c = omega (arith, (read_here c.before.before).few)
 
-same-length-5 : tie.Need-shape_of-tags-then-out-bytes
-same-length-5 c = search rules
-
-same-length-6 : tie.Need-shape_of-args-then-out-bytes
-same-length-6 c = search rules
-
-same-length-7 : tie.Need-shape_of-names-then-out-bytes
-same-length-7 c = search rules
-
-same-length-8 : tie.Need-shape_of-apps-then-out-bytes
-same-length-8 c = search rules
-
-returns-2 : tie.Need-returns-then-out-bytes
-returns-2 c =
-    let k = c.before.before.before in
-    let w = read_here k in
-    let a = k.before.before.before.before.before.before.before.before.before.before.before.before.before.before.before.before.before.before.before.before.args in
-    let few = k.before.before.before.before.before.before.before.before.before.before.before.before.before.before.before.before.before.before.before.before.requires.0 in
-    let e = file-read w few (sym c.before.before.is_padding.ensures ∙ c.before.if-not-is_padding.false) in
-    converts-short a.out.now e (omega (arith, file-length w, c.if-out-bytes.true))
-
 slice-reshare-prefix-write-file : tie.Need-slice_bounds-write_file-end
 slice-reshare-prefix-write-file c = within_tags (read_here c.before.before.before.before)
 
@@ -106,7 +85,7 @@ write-file-requires c κs =
     let w = read_here c.before.before.before.before in
     let t = length-take-le _ _ (within_tags w) in
     let m = length-take-le _ _ (within_arguments w) in
-    (c.before.before.before.before.before.before.before.before.before.before.before.before.before.before.before.before.before.before.before.before.before.before.before.before.requires.0, (t ∙ sym m, (omega (arith, t, w.few), omega (arith, t, c.before.if-out-bytes.false))))
+    (c.before.before.before.before.before.before.before.before.before.before.before.before.before.before.before.before.before.before.before.before.before.before.before.before.requires.0, (t ∙ sym m, (omega (arith, t, w.few), omega (arith, t))))
 
 same-length-9 : tie.Need-shape_of-tags-in-Cut
 same-length-9 c = search rules
@@ -144,30 +123,8 @@ returns-4 c =
     let e = subst (Scans a.f a.bits.now c.before.before.before.before.before.before.before.before.before.scan.new.tags c.before.before.before.before.before.before.before.before.before.scan.new.args) c.in-Beyond.is c.before.before.before.before.before.before.before.before.before.scan.ensures in
     converts-refused Range a.out.now (not-read a.f a.bits.now c.before.before.before.before.before.before.before.before.before.before.before.before.before.before.before.before.before.before.before.before.requires.0 16 e)
 
-same-length-17 : tie.Need-shape_of-tags-else-out-bytes
-same-length-17 c = search rules
-
-same-length-18 : tie.Need-shape_of-args-else-out-bytes
-same-length-18 c = search rules
-
-same-length-19 : tie.Need-shape_of-names-else-out-bytes
-same-length-19 c = search rules
-
-same-length-20 : tie.Need-shape_of-apps-else-out-bytes
-same-length-20 c = search rules
-
 same-length-21 : tie.Need-shape_of-out
 same-length-21 c = search rules
-
-returns-5 : tie.Need-returns-else-out-bytes
-returns-5 c =
-    let k = c.before.before.before.before.before.before.before in
-    let w = read_here k in
-    let a = k.before.before.before.before.before.before.before.before.before.before.before.before.before.before.before.before.before.before.before.before.args in
-    let few = k.before.before.before.before.before.before.before.before.before.before.before.before.before.before.before.before.before.before.before.before.requires.0 in
-    let e = file-read w few (sym c.before.before.before.before.before.before.is_padding.ensures ∙ c.before.before.before.before.before.if-not-is_padding.false) in
-    converts-written a.out.now e _ _ (omega (arith, file-length w, c.before.before.before.before.if-out-bytes.false)) (file-length w)
-    (c.before.before.write_file.ensures ∙ ap (λ s. overlay s a.out.now) (file-bytes w))
 
 pub import_in_spec : {M : Type 1} → statement M
 import_in_spec =
@@ -187,11 +144,17 @@ import_in_spec =
     mul-bytes
     add-bytes
     cast-bytes-2
-    same-length-5
-    same-length-6
-    same-length-7
-    same-length-8
-    returns-2
+    (λ c. search rules)
+    (λ c. search rules)
+    (λ c. search rules)
+    (λ c. search rules)
+    (λ c.
+    let k = c.before.before.before in
+    let w = read_here k in
+    let a = k.before.before.before.before.before.before.before.before.before.before.before.before.before.before.before.before.before.before.before.before.args in
+    let few = k.before.before.before.before.before.before.before.before.before.before.before.before.before.before.before.before.before.before.before.before.requires.0 in
+    let e = file-read w few (sym c.before.before.is_padding.ensures ∙ c.before.if-not-is_padding.false) in
+    converts-short a.out.now e (omega (arith, file-length w)))
     slice-reshare-prefix-write-file
     slice-aggregate-write-file
     slice-reshare-prefix-write-file-2
@@ -207,9 +170,16 @@ import_in_spec =
     same-length-15
     same-length-16
     returns-4
-    same-length-17
-    same-length-18
-    same-length-19
-    same-length-20
+    (λ c. search rules)
+    (λ c. search rules)
+    (λ c. search rules)
+    (λ c. search rules)
     same-length-21
-    returns-5)
+    (λ c.
+    let k = c.before.before.before.before.before.before.before in
+    let w = read_here k in
+    let a = k.before.before.before.before.before.before.before.before.before.before.before.before.before.before.before.before.before.before.before.before.args in
+    let few = k.before.before.before.before.before.before.before.before.before.before.before.before.before.before.before.before.before.before.before.before.requires.0 in
+    let e = file-read w few (sym c.before.before.before.before.before.before.is_padding.ensures ∙ c.before.before.before.before.before.if-not-is_padding.false) in
+    converts-written a.out.now e _ _ (omega (arith, file-length w)) (file-length w)
+    (c.before.before.write_file.ensures ∙ ap (λ s. overlay s a.out.now) (file-bytes w))))

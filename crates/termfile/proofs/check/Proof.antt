@@ -51,13 +51,6 @@ returns-3 c =
     let f = c.before.before.before.word_at-f in
     rw (refused-limits s (long-enough s (omega arith)) (no_nodes s (omega (arith, f.ensures)) (omega (arith, c.before.before.word_at-n.ensures))))
 
-returns-4 : tie.Need-returns-then-n-gt-MAX_NODES
-returns-4 c =
-    let s = c.before.before.before.before.before.before.before.args.file.now in
-    let f = c.before.before.before.before.word_at-f in
-    let n = c.before.before.before.word_at-n in
-    rw (refused-limits s (long-enough s (omega arith)) (many-nodes s (omega (arith, f.ensures)) (omega (arith, n.ensures)) (omega (arith, n.ensures))))
-
 cast-if5 : tie.Need-overflow_cast-n
 cast-if5 c = omega arith
 
@@ -115,7 +108,11 @@ check_spec =
     word-at-requires-2
     returns-2
     returns-3
-    returns-4
+    (λ c.
+    let s = c.before.before.before.before.before.before.before.args.file.now in
+    let f = c.before.before.before.before.word_at-f in
+    let n = c.before.before.before.word_at-n in
+    rw (refused-limits s (long-enough s (omega arith)) (many-nodes s (omega (arith, f.ensures)) (omega (arith, n.ensures)) (omega (arith, n.ensures)))))
     cast-if5
     mul-if5
     add-if5

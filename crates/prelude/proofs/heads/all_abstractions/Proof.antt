@@ -78,11 +78,6 @@ add-if1 c = omega (arith, enough c.before.loop-k.invariant c.loop-k-test.true)
 shared-slice-read-if1 : tie.Need-bounds-prelude-at invariant-loop decreases-loop
 shared-slice-read-if1 c = enough c.before.before.loop-k.invariant c.before.loop-k-test.true
 
-returns : tie.Need-returns-then-prelude-at-ne1 invariant-loop decreases-loop
-returns c =
-    let at = c.before.before in
-    another at.before.loop-k.invariant at.loop-k-test.true c.if-prelude-at-ne1.true
-
 file-length-requires : tie.Need-file_length-at-requires invariant-loop decreases-loop
 file-length-requires c κs =
     let at = c.before.before in
@@ -99,7 +94,7 @@ loop-less c = omega arith
 loop-again : tie.Need-loop-k-preserved invariant-loop decreases-loop
 loop-again c =
     let at = c.before.before.before in
-    next at.before.loop-k.invariant at.loop-k-test.true c.before.if-prelude-at-ne1.false c.file_length-at.result c.file_length-at.ensures
+    next at.before.loop-k.invariant at.loop-k-test.true (omega arith) c.file_length-at.result c.file_length-at.ensures
 
 returns-2 : tie.Need-returns invariant-loop decreases-loop
 returns-2 c = ended c.before.loop-k.invariant c.loop-k-test.false
@@ -114,7 +109,9 @@ all_abstractions_spec =
     add-k
     add-if1
     shared-slice-read-if1
-    returns
+    (λ c.
+    let at = c.before.before in
+    another at.before.loop-k.invariant at.loop-k-test.true (λ e. omega (arith, e)))
     file-length-requires
     add_at
     loop-less

@@ -78,11 +78,6 @@ shared-slice-read-word-2 c = omega (arith, enough c.before.before.before.loop-k.
 word-requires : tie.Need-word-requires invariant-loop decreases-loop
 word-requires c κs = search rules
 
-returns : tie.Need-returns-then-word-place invariant-loop decreases-loop
-returns c =
-    let at = c.before.before.before.before in
-    out-of-place at.before.loop-k.invariant at.loop-k-test.true c.before.word.result c.before.word.ensures c.if-word-place.true
-
 file-length-requires : tie.Need-file_length-at-requires invariant-loop decreases-loop
 file-length-requires c κs =
     let at = c.before.before.before.before in
@@ -100,7 +95,7 @@ loop-again : tie.Need-loop-k-preserved invariant-loop decreases-loop
 loop-again c =
     let at = c.before.before.before.before.before in
     let field = c.before.before.word in
-    next at.before.loop-k.invariant at.loop-k-test.true field.result field.ensures c.before.if-word-place.false c.file_length-at.result c.file_length-at.ensures
+    next at.before.loop-k.invariant at.loop-k-test.true field.result field.ensures (omega arith) c.file_length-at.result c.file_length-at.ensures
 
 returns-2 : tie.Need-returns invariant-loop decreases-loop
 returns-2 c = ended c.before.loop-k.invariant c.loop-k-test.false
@@ -117,7 +112,9 @@ all_in_place_spec =
     add-word
     shared-slice-read-word-2
     word-requires
-    returns
+    (λ c.
+    let at = c.before.before.before.before in
+    out-of-place at.before.loop-k.invariant at.loop-k-test.true c.before.word.result c.before.word.ensures (λ e. omega (arith, e)))
     file-length-requires
     add_at
     loop-less
