@@ -15,7 +15,7 @@ use glow_tests::random;
 const X: u32 = 100_000;
 
 /// Bytes of stack that a level of counting takes.
-const COUNTING: usize = 304;
+const COUNTING: usize = 160;
 
 /// What a thread uses of its stack before it does anything.
 fn a_thread() -> usize {

@@ -32,7 +32,7 @@ fn another_thread_only_where_needed() {
             assert!(on_stack(bytes, || { stores.evaluate(rules.into(), &file, GLOW_BUDGET); }) > needed * 93 / 100);
             assert!(on_stack(bytes, || { stores.evaluate_with(rules.into(), &prelude, &named, GLOW_BUDGET).unwrap(); }) > needed * 93 / 100);
         }
-        for bytes in [1 << 20, needed] {
+        for bytes in [1 << 19, needed] {
             assert!(on_stack(bytes, || { stores.evaluate(rules.into(), &file, GLOW_BUDGET); }) < needed / 16);
             assert!(on_stack(bytes, || { stores.evaluate_with(rules.into(), &prelude, &named, GLOW_BUDGET).unwrap(); }) < needed / 16);
         }

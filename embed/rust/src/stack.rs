@@ -34,7 +34,7 @@
 //! Four nodes are what the last kind takes, in counting and in writing, and two cells. In counting the first kind takes four
 //! nodes and one cell, and in writing six. The second kind takes four, and no cell. A result has at most 16,384 nodes, of which a
 //! level of the last kind writes four and one of the second three: with node stores beyond 16,384, or 21,845 with a
-//! prelude, less is taken than is told, with the largest by a seventh to a sixth.
+//! prelude, less is taken than is told, with the largest by about a sixth.
 //!
 //! No function of an import or an export calls itself: see [`STACK_FOR_AN_EXCHANGE`](crate::STACK_FOR_AN_EXCHANGE).
 
@@ -49,7 +49,7 @@ pub const STACK_FOR_A_CALL: usize = 106_496;
 pub const STACK_FOR_A_RESULT: usize = 69_632;
 
 /// Bytes of stack that each further level of writing takes. One of counting takes fewer.
-pub const STACK_FOR_A_LEVEL: usize = 464;
+pub const STACK_FOR_A_LEVEL: usize = 224;
 
 /// The most that any stores make an evaluation take, with a prelude or without.
 pub const MOST_STACK_NEEDED: usize = stack_needed(super::MOST_COUNTED, super::MOST_COUNTED);

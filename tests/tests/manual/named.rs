@@ -53,11 +53,11 @@ fn defined_as<const N: usize>(path: &str, name: &str) -> [usize; N] {
 
 /// Numbers in sentences, each from the definition or the code that has it, with the words that it stands among.
 pub fn sentences(text: &str) -> Checked {
-    let [free] = defined_as("crates/termfile/specs/File.antt", "maxFree");
-    let [most] = defined_as("crates/termfile/specs/File.antt", "maxNodes");
+    let [free] = defined_as("crates/termfile/specs/File.antt", "max_free");
+    let [most] = defined_as("crates/termfile/specs/File.antt", "max_nodes");
     let [budget] = defined_as("crates/machine/specs/Glow.antt", "million");
     let [nodes, cells, names, renumber, output] = defined_as("crates/machine/specs/Glow.antt", "glow");
-    let [longest] = defined_as("crates/rendering/specs/Promise.antt", "longestText");
+    let [longest] = defined_as("crates/rendering/specs/Promise.antt", "longest_text");
     let right = [
         format!("| budget | {} beta steps |", grouped(budget)),
         format!("| node store | {} |", grouped(nodes)),
@@ -101,8 +101,8 @@ pub fn arrays(text: &str) -> Checked {
     let rows = table(text, &["store", "arrays", "bits", "cap"])?.rows;
     let shown: Vec<(String, String)> = rows.iter().flat_map(|row| quoted(&row[1]).into_iter().zip(row[2].split(", ").map(String::from))).collect();
     same("the arrays", shown, lent())?;
-    let [store] = defined_as("crates/machine/specs/Answer.antt", "storeLimit");
-    let [output] = defined_as("crates/machine/specs/Answer.antt", "outputLimit");
+    let [store] = defined_as("crates/machine/specs/Answer.antt", "store_limit");
+    let [output] = defined_as("crates/machine/specs/Answer.antt", "output_limit");
     let caps: Vec<&str> = rows.iter().map(|row| row[3].as_str()).collect();
     let (store, output) = (grouped(store), grouped(output));
     same("the caps", caps, vec![&store, &store, &store, "none", &output])?;
