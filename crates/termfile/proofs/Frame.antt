@@ -17,14 +17,14 @@ use Rattle.termfile.proofs.Bytes.{behind}
 use Rattle.termfile.proofs.Bytes as bytes
 
 -- the number i of a list of bytes stands at the byte j = 2 i
-get_d_words : (l : List ℕ) (i j : ℕ) → j ≡ 2 * i → suc j < length l → get_or (words l) i 0 ≡ word (get_or l j 0) (get_or l (suc j) 0)
-get_d_words [] i j e h = omega arith
-get_d_words (a ∷ []) i j e h = omega arith
-get_d_words (a ∷ b ∷ l) zero zero e h = refl
-get_d_words (a ∷ b ∷ l) zero (suc j) e h = omega arith
-get_d_words (a ∷ b ∷ l) (suc i) zero e h = omega arith
-get_d_words (a ∷ b ∷ l) (suc i) (suc zero) e h = omega arith
-get_d_words (a ∷ b ∷ l) (suc i) (suc (suc j)) e h = get_d_words l i j (omega arith) (omega arith)
+get_or_words : (l : List ℕ) (i j : ℕ) → j ≡ 2 * i → suc j < length l → get_or (words l) i 0 ≡ word (get_or l j 0) (get_or l (suc j) 0)
+get_or_words [] i j e h = omega arith
+get_or_words (a ∷ []) i j e h = omega arith
+get_or_words (a ∷ b ∷ l) zero zero e h = refl
+get_or_words (a ∷ b ∷ l) zero (suc j) e h = omega arith
+get_or_words (a ∷ b ∷ l) (suc i) zero e h = omega arith
+get_or_words (a ∷ b ∷ l) (suc i) (suc zero) e h = omega arith
+get_or_words (a ∷ b ∷ l) (suc i) (suc (suc j)) e h = get_or_words l i j (omega arith) (omega arith)
 
 get_or-pairs : (ts ms : List ℕ) (i : ℕ) (d : Node) → i < length ts → length ts ≡ length ms
     → get_or (pairs ts ms) i d ≡ record { tag = get_or ts i 0; argument = get_or ms i 0 }
@@ -41,7 +41,7 @@ module _ (s : List ℕ) {n : ℕ} (count : n ≡ node_count s) (exact : length s
   pub argument-at : (i : ℕ) → i < n → get_or (arguments s) i 0 ≡ word (get_or s (4 + n + 2 * i) 0) (get_or s (4 + n + 2 * i + 1) 0)
   argument-at i h =
       ap (λ (l : List ℕ). get_or l i 0) (bytes.arguments_behind s exact)
-      ∙ get_d_words (behind s) i (2 * i) refl (omega (arith, bytes.length-behind s exact))
+      ∙ get_or_words (behind s) i (2 * i) refl (omega (arith, bytes.length-behind s exact))
       ∙ ap₂ word (byte_at (2 * i) low) (byte_at (suc (2 * i)) high)
     where
       byte_at : (j : ℕ) {k : ℕ} → 4 + node_count s + j ≡ k → get_or (behind s) j 0 ≡ get_or s k 0

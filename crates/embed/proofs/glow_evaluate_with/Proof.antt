@@ -18,8 +18,8 @@ named-is d = sym d.before.machine_of-named.ensures ∙ d.in-Known.is
 abbrev evaluated : tie.After-tell → tie.After-evaluate_with-answer
 evaluated c = c.before.before.before.before.before.before.before.before.before.before.before.before.before.before.before.before.before.before.before.before
 
-abbrev asked : tie.After-evaluate_with-answer → tie.In-Known
-asked d = d.before.before.before.before.before.before.before.before.before.before.before
+abbrev machine-known : tie.After-evaluate_with-answer → tie.In-Known
+machine-known d = d.before.before.before.before.before.before.before.before.before.before.before
 
 machine-of-requires : tie.Need-machine_of-named-requires
 machine-of-requires c κs = tt
@@ -73,12 +73,13 @@ returns-3 : tie.Need-returns
 returns-3 c =
     let t = c.before.before in
     let d = evaluated t in
-    let a = asked d in
+    let a = machine-known d in
     let w = d.evaluate_with-answer.ensures.1 in
     let r = a.before.before.before.before.before.before.before.before.before.before.before.before.before.before.args.report.now in
     embeds-called (named-is a) (omega arith) d.evaluate_with-answer.result w (t.tell.ensures.0 ∙ ap status_of w.answer_is)
     (t.tell.ensures.1 ∙ ap (λ v. overlay (numbers_of v) r) w.answer_is)
 
+-- Answers without a name are of goals that are named after a condition which a must-fail edit turns.
 pub glow_evaluate_with_spec : {M : Type 1} → statement M
 glow_evaluate_with_spec =
     tie.close

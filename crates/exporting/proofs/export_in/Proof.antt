@@ -83,6 +83,7 @@ returns-2 c =
     converts-written a.out.now e _ _ (omega (arith, n, m.count)) (omega (arith, n, m.count))
     (c.before.before.write_bits.ensures ∙ ap (λ bs. overlay (pack bs) a.out.now) bits-same)
 
+-- Answers without a name are of goals that are named after a condition which a must-fail edit turns.
 pub export_in_spec : {M : Type 1} → statement M
 export_in_spec =
     tie.close

@@ -126,6 +126,7 @@ returns-4 c =
 same-length-21 : tie.Need-shape_of-out
 same-length-21 c = search rules
 
+-- Answers without a name are of goals that are named after a condition which a must-fail edit turns.
 pub import_in_spec : {M : Type 1} → statement M
 import_in_spec =
     tie.close

@@ -99,6 +99,7 @@ check-nodes-requires-3 c κs = (headed c.before.before.before, search rules)
 returns-8 : tie.Need-returns
 returns-8 c = search rules
 
+-- Answers without a name are of goals that are named after a condition which a must-fail edit turns.
 pub check_spec : {M : Type 1} → statement M
 check_spec =
     tie.close

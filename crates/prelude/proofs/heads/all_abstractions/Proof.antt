@@ -99,6 +99,7 @@ loop-again c =
 returns-2 : tie.Need-returns invariant-loop decreases-loop
 returns-2 c = ended c.before.loop-k.invariant c.loop-k-test.false
 
+-- Answers without a name are of goals that are named after a condition which a must-fail edit turns.
 pub all_abstractions_spec : {M : Type 1} → statement M
 all_abstractions_spec =
     tie.close
