@@ -28,7 +28,7 @@ fn another_thread_only_where_needed() {
     let needed = stores.stack_needed();
     assert_eq!(needed, stores.stack_needed_with());
     for rules in BOTH {
-        for bytes in [8 << 20, 2 << 20] {
+        for bytes in [8 << 20, 2 << 20, needed + (128 << 10)] {
             assert!(on_stack(bytes, || { stores.evaluate(rules.into(), &file, GLOW_BUDGET); }) > needed * 93 / 100);
             assert!(on_stack(bytes, || { stores.evaluate_with(rules.into(), &prelude, &named, GLOW_BUDGET).unwrap(); }) > needed * 93 / 100);
         }
