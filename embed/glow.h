@@ -83,15 +83,15 @@ enum glow_tag { GLOW_VARIABLE = 0, GLOW_ABSTRACTION = 1, GLOW_APPLICATION = 2 };
 #define GLOW_MOST_COUNTED 32768     /* counted of the node, cell and name stores */
 
 /* Stack. A call of glow_evaluate takes at most GLOW_STACK_NEEDED(nodes, cells) bytes, where nodes is the shorter
-   length of tags and args, and cells the shortest of codes, owns and nexts: 987,136 with the program's stores,
-   and GLOW_MOST_STACK_NEEDED, 1,904,640, with the largest. For counting and writing a result call themselves, no
+   length of tags and args, and cells the shortest of codes, owns and nexts: 856,064 with the program's stores,
+   and GLOW_MOST_STACK_NEEDED, 1,642,496, with the largest. For counting and writing a result call themselves, no
    deeper than there are cells, nor than one for each four nodes. A definition has no cell, so a call of
    glow_evaluate_with takes at most GLOW_STACK_NEEDED(nodes, nodes). Before a result is counted any call takes up to
    GLOW_STACK_FOR_A_CALL, which is free again then. On a thread with less a term that is nested deeply enough
    overflows the stack, which ends the process. */
 #define GLOW_STACK_FOR_A_CALL 106496
 #define GLOW_STACK_FOR_A_RESULT 69632
-#define GLOW_STACK_FOR_A_LEVEL 224
+#define GLOW_STACK_FOR_A_LEVEL 192
 #define GLOW_LESS(a, b) ((size_t)(a) < (size_t)(b) ? (size_t)(a) : (size_t)(b))
 #define GLOW_MORE(a, b) ((size_t)(a) < (size_t)(b) ? (size_t)(b) : (size_t)(a))
 #define GLOW_STACK_NEEDED(nodes, cells) \

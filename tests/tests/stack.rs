@@ -15,7 +15,7 @@ use glow_tests::random;
 const X: u32 = 100_000;
 
 /// Bytes of stack that a level of counting takes.
-const COUNTING: usize = 160;
+const COUNTING: usize = 96;
 
 /// What a thread uses of its stack before it does anything.
 fn a_thread() -> usize {
@@ -182,7 +182,7 @@ fn the_worst_with_a_prelude() {
 }
 
 /// Abstractions around a small term, so many that their levels take more than the checks do; each has a call of its own, and the term too.
-const AROUND: usize = 240;
+const AROUND: usize = 480;
 
 /// Stack for a call with these levels and a hundred more.
 const SMALL: usize = stack_needed(4 * (AROUND + 100), AROUND + 100) + (16 << 10);

@@ -6,6 +6,7 @@ use mathlib.Core.Path.{◌≡◌, refl, sym, ap, subst, ◌∙◌}
 use mathlib.Core.Bool.{cond}
 use mathlib.Core.List.{List}
 use mathlib.Core.Logic.{⊎_map}
+use Rattle.std.specs.Prelude.{Result}
 use native.Mathlib.Omega.{arith}
 use lib.Dec.{eqb}
 use lib.ListN.{length, take, drop, get_or}
@@ -23,8 +24,9 @@ use Rattle.machine.specs.Raising as raising
 use Rattle.machine.proofs.Outcomes.{written_count}
 use Rattle.evaluator.specs.Promise.{stores_in, Called}
 use Rattle.evaluator.specs.declared.Answer as enum
-use Rattle.embed.specs.Embedding.{outcome_status, status_of, refusal_of, numbers_of, EmbeddedOn, EmbeddedBy, on_machine, no_machine, named_by}
-use Rattle.embed.specs.declared.Named.{Named}
+use Rattle.embed.specs.Embedding.{outcome_status, status_of, refusal_of, numbers_of, EmbeddedOn, EmbeddedBy, on_machine, no_machine}
+use Rattle.machine.specs.Naming.{named_by}
+use Rattle.machine.specs.declared.UnknownMachine.{UnknownMachine}
 use Rattle.again.specs.Embedded.{EmbeddedCall, IsEmbeddedCall, IsEmbeddedFileCall, numbers_reported, EmbeddedAgain, MayReturnElse, was_spent, was_refused, EmbeddedMore, NumbersGrow, TwoEmbeddedCalls}
 use Rattle.again.proofs.Told.{run_refusal_of}
 use Rattle.again.proofs.Again.{limits-grow, steps-grow, longer-store, overlay-fronts, writes_again}
@@ -152,7 +154,7 @@ grown : {first second : EmbeddedCall} → EmbeddedMore first second
 grown {first} {second} h = limits-grow first.budget second.budget first.before second.before h.budget h.stores
 
 -- by what the number names, for both calls
-two : {g : Given} {first second : EmbeddedCall} (n : Named) → EmbeddedBy g first.budget first.status first.before first.after first.report_before first.report_after n
+two : {g : Given} {first second : EmbeddedCall} (n : Result Machine UnknownMachine) → EmbeddedBy g first.budget first.status first.before first.after first.report_before first.report_after n
     → EmbeddedBy g second.budget second.status second.before second.after second.report_before second.report_after n → TwoEmbeddedCalls first second
 two {g} {first} {second} _ (on_machine M e) (on_machine _ i) =
     record {
@@ -176,7 +178,7 @@ two {g} {first} {second} _ (on_machine M e) (on_machine _ i) =
           let w = status-alone _ (sym a.status_is ∙ n) in
           again a (made i r) (a.called.stays.number_again _ _ _ _ w.0 w.1);
     }
-two _ (no_machine e) (no_machine i) =
+two _ (no_machine u e) (no_machine _ i) =
     record {
       normal_again = λ h n. absurd (omega (arith, n, e.status_five));
       one_normal = λ n n'. absurd (omega (arith, n, e.status_five));

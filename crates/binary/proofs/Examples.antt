@@ -5,7 +5,7 @@ use Prim.Native.Nat.{ℕ}
 use mathlib.Core.Path.{◌≡◌, refl}
 use mathlib.Core.List.{List, [], ◌∷◌}
 use Rattle.termfile.specs.File.{refusal}
-use Rattle.binary.specs.Answer.{Result, number, bytes, imported, exported, Answer, refused, written, answer}
+use Rattle.binary.specs.Answer.{Wanted, number, bytes, imported, exported, Answer, refused, written, answer}
 
 -- bits in bytes, a count of free names, the length of the output, and what is answered
 pub record Row : Type 0 where
@@ -48,7 +48,7 @@ rows =
     ∷ []
 
 -- what a file that is written is exported to
-abbrev pub Back : Result → List ℕ → Type 0
+abbrev pub Back : Wanted → List ℕ → Type 0
 Back (number k) s = Unit {0}
 Back (bytes r) s = exported r ≡ bytes s
 

@@ -20,7 +20,7 @@ use Rattle.termfile.proofs.Acceptance.{accepted}
 use Rattle.termfile.proofs.Theorems.{Stands, stands-whole, stands-names, stands-canonical, stands-unique, canonical-stands}
 use Rattle.binary.specs.Bits.{bits_in, bits, pack}
 use Rattle.binary.specs.Reading.{Reading, unread, read, reading, whole, nothing}
-use Rattle.binary.specs.Answer.{Result, number, bytes, padding, file_from, imported, bits_unless, exported}
+use Rattle.binary.specs.Answer.{Wanted, number, bytes, padding, file_from, imported, bits_unless, exported}
 use Rattle.binary.specs.Exchange.{Packs, Exchange}
 use Rattle.binary.proofs.Packing.{spare, pack-bits, spare-padding, pack-unique}
 use Rattle.binary.proofs.ReadBack.{reading-whole}
@@ -35,7 +35,7 @@ bytes-injective : {s r : List ℕ} → bytes s ≡ bytes r → s ≡ r
 bytes-injective e = cc
 
 -- where bytes are given, a test is passed
-test-passed : (q : Bool) (o : Result) (k : ℕ) (r : List ℕ) → cond q o (number k) ≡ bytes r → (q ≡ true) × (o ≡ bytes r)
+test-passed : (q : Bool) (o : Wanted) (k : ℕ) (r : List ℕ) → cond q o (number k) ≡ bytes r → (q ≡ true) × (o ≡ bytes r)
 test-passed true o k r e = (refl, e)
 test-passed false o k r e = absurd (number-bytes e)
 

@@ -5,6 +5,7 @@ use mathlib.Core.Path.{◌≡◌, refl, ap, ◌∙◌, subst}
 use mathlib.Core.Bool.{Bool, true, false}
 use mathlib.Core.List.{List}
 use native.Mathlib.Omega.{arith}
+use Rattle.std.proofs.Common.{Result, Ok, Err}
 use lib.Dec.{leb}
 use lib.ListN.{length, replicate, length-replicate}
 use borrow.Author.Tests.{leb-true, leb-false}
@@ -17,9 +18,9 @@ use Rattle.evaluator.proofs.Promises.{file-few}
 use Rattle.evaluator.specs.Promise.{Memory, stores_in, Called}
 use Rattle.evaluator.specs.declared.Answer.{Answer}
 use Rattle.rendering.specs.Lines.{lines, text_of}
-use Rattle.rendering.specs.Promise.{nodes_in, longest_text, Renders}
-use Rattle.rendering.specs.declared.Rendered.{Rendered}
-use Rattle.rendering.specs.declared.Rendered.TheVariants.{Written, TooShort}
+use Rattle.rendering.specs.Promise.{nodes_in, Renders}
+use Rattle.rendering.specs.declared.Unrendered.{Unrendered}
+use Rattle.rendering.specs.declared.Unrendered.TheVariants.{TooShort}
 use Rattle.rendering.proofs.Given.{called-given, called-text}
 use Rattle.command.specs.Telling.{glow_text, Tells}
 
@@ -45,28 +46,20 @@ fits : (n k : ℕ) → (k < n → ⊥) → (b : Bool) → leb n k ≡ b → n �
 fits n k not true e = leb-true n k e
 fits n k not false e = absurd (not (leb-false n k e))
 
-pub tells : {s : List ℕ} {a : Answer} {m m' : Memory} {q : Rendered} {l l' : List ℕ} → GlowLengths m → Called First (file_given s) million a m m'
+pub tells : {s : List ℕ} {a : Answer} {m m' : Memory} {q : Result ℕ Unrendered} {l l' : List ℕ} → GlowLengths m → Called First (file_given s) million a m m'
     → Renders (told a) m'.output_tags m'.output_arguments q l l' → Tells s q l l'
 tells {s} {a} {m} {m'} {q} {l} {l'} g c r =
     let given = (called-given (omega arith) (file-few s) c).tellable in
     let same : lines (told a) (nodes_in (told a) m'.output_tags m'.output_arguments) ≡ glow_text s =
     called-text (omega arith) (file-few s) c ∙ ap (text_of First (file_given s) million) (stores-are m g) in
-    let short : length l < length (glow_text s) → q ≡ TooShort = subst (λ t. length l < length t → q ≡ TooShort) same (r.short given) in
+    let short : length l < length (glow_text s) → q ≡ Err TooShort = subst (λ t. length l < length t → q ≡ Err TooShort) same (r.short given) in
     record {
-      written = subst (λ t. length t ≤ length l → q ≡ Written (length t)) same (r.written given);
+      written = subst (λ t. length t ≤ length l → q ≡ Ok (length t)) same (r.written given);
       text = subst (λ t. length t ≤ length l → l' ≡ overlay t l) same (r.text given);
       short = short;
       short_kept = subst (λ t. length l < length t → l' ≡ l) same (r.short_kept given);
       enough = λ h. fits (length (glow_text s)) (length l) (λ less. r.enough h (short less)) (leb (length (glow_text s)) (length l)) refl;
     }
-
--- what is written into an array as long as the longest text ends within it
-pub written-fits : {s : List ℕ} {q : Rendered} {l l' : List ℕ} {n : ℕ} → Tells s q l l' → longest_text ≤ length l → length l' ≡ length l → q ≡ Written n
-    → n ≤ length l'
-written-fits {s} {q} {l} {l'} {n} t long kept e =
-    let is : q ≡ Written (length (glow_text s)) = t.written (t.enough long) in
-    let same : n ≡ length (glow_text s) = cc in
-    omega (arith, same, t.enough long, kept)
 
 -- arrays of zeros
 pub zeros : (n : ℕ) → length (replicate {A = ℕ} n 0) ≡ n

@@ -3,37 +3,28 @@
 // At most 49,157 bytes are read: one more than the largest term file has, so that a longer one is refused.
 #![tactic(auto)]
 
-mod reading;
 mod telling;
 
 ghost use Rattle.std.specs.Prelude.{◌≤◌, length};
 ghost use Rattle.rendering.specs.Promise.{longest_text};
 ghost use Rattle.command.specs.ExitStatus.{ExitStatus};
 
-use reading::read_input;
-use rendering::Rendered;
+use input::read_input;
 use std::fmt::InlineText;
 use std::io;
 use std::io::Read;
 use telling::tell;
 
-// The exit statuses: the answer is written out; the input cannot be read or the output not be written.
+// The most bytes that are read, and room for the longest text.
+const MOST_READ: usize = 49157;
+
+const TEXT_ROOM: usize = 115000;
+
+// The exit statuses: the answer is written out; the input cannot be read or the output not be written. They stay numbers, since
+// `glow_command` answers an i32.
 const DONE: i32 = 0;
 
 const FAILED: i32 = 1;
-
-// The lines on standard error; the system's reason follows. Where a line cannot be written either, the status tells.
-fn say_unread(rt: &impl Eprint, why: io::Error) {
-    let said = InlineText::<256>::of(why);
-    let reason = reason_in(said.as_str());
-    let _ = eprintln!(rt; "glow: cannot read the input: {reason}");
-}
-
-fn say_unwritten(rt: &impl Eprint, why: io::Error) {
-    let said = InlineText::<256>::of(why);
-    let reason = reason_in(said.as_str());
-    let _ = eprintln!(rt; "glow: cannot write the output: {reason}");
-}
 
 // The system's words in an error's text, without its number behind them.
 fn reason_in(text: &str) -> &str {
@@ -41,6 +32,17 @@ fn reason_in(text: &str) -> &str {
         Some((words, _)) => words,
         None => text,
     }
+}
+
+// Tells on standard error what cannot be done and the system's reason, and answers the status. Where the line cannot be written
+// either, the status tells.
+fn fail(rt: &impl Eprint, tried: &str, why: io::Error) -> i32
+    ensures { ExitStatus result }
+{
+    let said = InlineText::<256>::of(why);
+    let reason = reason_in(said.as_str());
+    let _ = eprintln!(rt; "glow: cannot {tried}: {reason}");
+    FAILED
 }
 
 // Reads the file into `buf`, has its lines put into `text`, and writes them at once. As `text` has room for every text, `tell`
@@ -56,21 +58,14 @@ fn respond<R: Print + Eprint, I: Read>(
 {
     let length = match read_input(input, buf) {
         Ok(length) => length,
-        Err(why) => {
-            say_unread(rt, why);
-            return FAILED;
-        }
+        Err(why) => return fail(rt, "read the input", why),
     };
-    let told = tell(&buf[..length], text);
-    let Rendered::Written(n) = told else {
+    let Ok(n) = tell(&buf[..length], text) else {
         return FAILED;
     };
     match rt.write_all(&text[..n]) {
         Ok(()) => DONE,
-        Err(why) => {
-            say_unwritten(rt, why);
-            FAILED
-        }
+        Err(why) => fail(rt, "write the output", why),
     }
 }
 
@@ -78,7 +73,7 @@ fn respond<R: Print + Eprint, I: Read>(
 pub fn glow_command<R: Input + Print + Eprint>(rt: &R) -> i32
     ensures { ExitStatus result }
 {
-    let mut file = [0u8; 49157];
-    let mut text = [0u8; 115000];
+    let mut file = [0u8; MOST_READ];
+    let mut text = [0u8; TEXT_ROOM];
     respond(rt, &mut rt.reader(), &mut file, &mut text)
 }

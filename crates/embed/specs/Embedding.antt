@@ -1,20 +1,15 @@
 -- What a call from another language returns: a status, and numbers in the report array.
 -- Letters: M is a machine, k the number of one, g is what the bytes give, q is the status, m and m' what the stores hold before and after, r
 -- and r' the report array.
-use Rattle.std.specs.Prelude.{ℕ, ◌≤◌, ◌<◌, ◌≡◌, cond, List, [], ◌∷◌, eqb, length}
+use Rattle.std.specs.Prelude.{ℕ, ◌≤◌, ◌<◌, ◌≡◌, List, [], ◌∷◌, length, Result, Ok, Err}
 use Rattle.machine.specs.declared.Machine.{Machine}
-use Rattle.machine.specs.declared.Machine.TheVariants.{First, OnDemand}
+use Rattle.machine.specs.declared.UnknownMachine.{UnknownMachine}
+use Rattle.machine.specs.Naming.{named_by}
 use Rattle.machine.specs.Answer as machine
 use Rattle.termfile.specs.Output.{overlay}
 use Rattle.machine.specs.Answer.{answer}
 use Rattle.evaluator.specs.Promise.{Memory, stores_in, Called}
 use Rattle.evaluator.specs.declared.Answer.{Answer}
-use Rattle.embed.specs.declared.Named.{Named}
-use Rattle.embed.specs.declared.Named.TheVariants.{Known, Unknown}
-
--- the machine of a number: 0 the first, 1 on demand
-abbrev pub named_by : ℕ → Named
-named_by k = cond (eqb k 0) (Known First) (cond (eqb k 1) (Known OnDemand) Unknown)
 
 -- 0 a normal form, 1 spent, 2 a refusal of the run
 abbrev pub outcome_status : machine.Outcome → ℕ
@@ -58,9 +53,9 @@ pub record EmbeddedOn (M : Machine) (g : machine.Given) (budget q : ℕ) (m m' :
   pub numbers : 12 ≤ length r → r' ≡ overlay (numbers_of (answer M g budget (stores_in m))) r
 
 -- of a call with a number, by what it names
-pub data EmbeddedBy (g : machine.Given) (budget q : ℕ) (m m' : Memory) (r r' : List ℕ) : Named → Type 0 where
-  on_machine : (M : Machine) → EmbeddedOn M g budget q m m' r r' → EmbeddedBy g budget q m m' r r' (Known M)
-  no_machine : NoSuchMachine q m m' r r' → EmbeddedBy g budget q m m' r r' Unknown
+pub data EmbeddedBy (g : machine.Given) (budget q : ℕ) (m m' : Memory) (r r' : List ℕ) : Result Machine UnknownMachine → Type 0 where
+  on_machine : (M : Machine) → EmbeddedOn M g budget q m m' r r' → EmbeddedBy g budget q m m' r r' (Ok M)
+  no_machine : (u : UnknownMachine) → NoSuchMachine q m m' r r' → EmbeddedBy g budget q m m' r r' (Err u)
 
 abbrev pub Embedded : ℕ → machine.Given → ℕ → ℕ → Memory → Memory → List ℕ → List ℕ → Type 0
 Embedded k g budget q m m' r r' = EmbeddedBy g budget q m m' r r' (named_by k)

@@ -9,39 +9,22 @@
 // substs and shifts. At 3 only the number is written, and at 4 and 5 nothing is touched.
 #![tactic(auto)]
 
-ghost use Rattle.std.specs.Prelude.{◌≡◌, ◌≤◌, length};
+ghost use Rattle.std.specs.Prelude.{◌≡◌, ◌≤◌, [], ◌∷◌, length};
 ghost use Rattle.termfile.specs.Output.{overlay};
 ghost use Rattle.machine.specs.Answer.{nodes_written, report as reported, given, file_given};
 ghost use Rattle.evaluator.specs.Calling.{told_outcome, told_report, told};
 ghost use Rattle.evaluator.specs.Promise.{memory};
-ghost use Rattle.embed.specs.Embedding.{named_by, outcome_status, status_of, refusal_of, numbers_of, Embedded};
+ghost use Rattle.embed.specs.Embedding.{outcome_status, status_of, refusal_of, numbers_of, Embedded};
 
 use evaluator::{Answer, Outcome, Report};
 use machine::Machine;
-
-// The machine that a number names, if it names one.
-#[derive(Clone, Copy)]
-pub enum Named {
-    Known(Machine),
-    Unknown,
-}
-
-fn machine_of(number: u32) -> Named
-    ensures { result ≡ named_by number }
-{
-    match number {
-        0 => Named::Known(Machine::First),
-        1 => Named::Known(Machine::OnDemand),
-        _ => Named::Unknown,
-    }
-}
 
 // A run's refusal, or 0.
 fn refusal_of(outcome: Outcome) -> u64
     ensures { result ≡ refusal_of (told_outcome outcome) }
 {
     match outcome {
-        Outcome::Refused(why) => evaluator::number(why),
+        Outcome::Refused(why) => why.number(),
         Outcome::Normal(_) => 0,
         Outcome::Spent => 0,
     }
@@ -68,24 +51,37 @@ fn status_of(outcome: Outcome) -> u32
     }
 }
 
-// Writes the numbers of a run's report.
-fn write_report(r: Report, report: &mut [u64])
-    requires { 12 ≤ length report.old }
-    ensures { report.new ≡ overlay (numbers_of (reported (told_report r))) report.old }
+// How many numbers a run's report has.
+const NUMBERS: usize = 12;
+
+// The numbers of a run's report.
+fn numbers_of(r: Report) -> [u64; 12]
+    ensures { result ≡ numbers_of (reported (told_report r)) }
 {
-    let outcome = r.outcome;
-    report[0] = refusal_of(outcome);
-    report[1] = written_of(outcome);
-    report[2] = r.beta;
-    report[3] = r.subst;
-    report[4] = r.enter;
-    report[5] = r.leave_fun;
-    report[6] = r.leave_inert;
-    report[7] = r.nodes;
-    report[8] = r.cells;
-    report[9] = r.names;
-    report[10] = r.subst_allowance;
-    report[11] = r.shift_allowance;
+    [
+        refusal_of(r.outcome),
+        written_of(r.outcome),
+        r.beta,
+        r.subst,
+        r.enter,
+        r.leave_fun,
+        r.leave_inert,
+        r.nodes,
+        r.cells,
+        r.names,
+        r.subst_allowance,
+        r.shift_allowance,
+    ]
+}
+
+// Writes the number of a refused term file or prelude, alone, and returns the status of both.
+fn tell_alone(number: u64, report: &mut [u64]) -> u32
+    requires { 12 ≤ length report.old }
+    ensures status { result ≡ 3 }
+    ensures numbers { report.new ≡ overlay (number ∷ []) report.old }
+{
+    report[0] = number;
+    3
 }
 
 // Writes what an answer tells, and returns its status.
@@ -95,18 +91,11 @@ fn tell(answer: Answer, report: &mut [u64]) -> u32
     ensures numbers { report.new ≡ overlay (numbers_of (told answer)) report.old }
 {
     match answer {
-        Answer::FileRefused(why) => {
-            report[0] = termfile::number(why);
-            3
-        }
-        Answer::PreludeRefused(why) => {
-            report[0] = prelude::number(why);
-            3
-        }
+        Answer::FileRefused(why) => tell_alone(why.number(), report),
+        Answer::PreludeRefused(why) => tell_alone(why.number(), report),
         Answer::Ran(r) => {
-            let outcome = r.outcome;
-            write_report(r, report);
-            status_of(outcome)
+            report[..NUMBERS].copy_from_slice(&numbers_of(r));
+            status_of(r.outcome)
         }
     }
 }
@@ -133,11 +122,10 @@ pub fn glow_evaluate_with(
         (memory tags.new args.new codes.new owns.new nexts.new places.new renumber.new out_tags.new out_args.new)
         report.old report.new }
 {
-    let named = machine_of(machine);
-    let Named::Known(chosen) = named else {
+    let Ok(chosen) = Machine::try_from(machine) else {
         return 5;
     };
-    if report.len() < 12 {
+    if report.len() < NUMBERS {
         return 4;
     }
     let answer = evaluator::evaluate_with(

@@ -8,8 +8,6 @@
 // size (`families::node_in`). `expected.py` works `stdout` out from the paper.
 #![tactic(auto)]
 
-ghost use Rattle.std.specs.Io.{ReadsAtMost};
-
 mod build;
 mod families;
 mod kept;
@@ -20,28 +18,12 @@ use build::put_file;
 use kept::{kept_words, stores_kept};
 use report::write_line;
 use std::io;
-use std::io::Read;
 use text::{budget_of, file_of, fill_of, find, first_round, length_in};
 
 fn main(rt: HostRuntime) -> io::Result<()> {
     let mut text = [0u8; 65536];
-    let n = read_full(&mut rt.stdin(), &mut text)?;
+    let n = input::read_input(&mut rt.stdin(), &mut text)?;
     rows(&rt, &text[..n])
-}
-
-// Reads until the buffer is full or the input ends, and answers how many bytes stand at the start of the buffer.
-fn read_full(input: &mut impl Read, buf: &mut [u8]) -> io::Result<usize>
-    ensures { ReadsAtMost result buf.new }
-{
-    let mut done = 0;
-    while done < buf.len() {
-        let n = input.read(&mut buf[done..])?;
-        if n == 0 {
-            break;
-        }
-        done += n;
-    }
-    Ok(done)
 }
 
 // Two lines for each row of a text.

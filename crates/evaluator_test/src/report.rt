@@ -88,8 +88,8 @@ fn write_answer(
     out_args: &[u16; 33000],
 ) -> io::Result<Left> {
     match answer {
-        Answer::FileRefused(why) => write_alone(out, termfile::number(why)),
-        Answer::PreludeRefused(why) => write_alone(out, prelude::number(why)),
+        Answer::FileRefused(why) => write_alone(out, why.number()),
+        Answer::PreludeRefused(why) => write_alone(out, why.number()),
         Answer::Ran(report) => write_report(out, report, out_tags, out_args),
     }
 }
@@ -139,7 +139,7 @@ fn write_outcome(out: &impl Print, outcome: Outcome) -> io::Result<()> {
     match outcome {
         Outcome::Normal(n) => write_number(out, ": normal ", n as u64),
         Outcome::Spent => out.print(": spent"),
-        Outcome::Refused(why) => write_number(out, ": refused ", evaluator::number(why)),
+        Outcome::Refused(why) => write_number(out, ": refused ", why.number()),
     }
 }
 

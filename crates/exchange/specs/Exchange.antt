@@ -3,7 +3,7 @@
 -- report array.
 use Rattle.std.specs.Prelude.{ℕ, ◌≤◌, ◌<◌, ◌≡◌, List, [], ◌∷◌, length}
 use Rattle.termfile.specs.Output.{overlay}
-use Rattle.binary.specs.Answer.{Result, Answer, refused, written, answer, output}
+use Rattle.binary.specs.Answer.{Wanted, Answer, refused, written, answer, output}
 
 -- 0 written, 3 refused
 abbrev pub exchange_status : Answer → ℕ
@@ -15,7 +15,7 @@ abbrev pub exchange_numbers : Answer → List ℕ
 exchange_numbers (written n) = 0 ∷ n ∷ []
 exchange_numbers (refused k) = k ∷ 0 ∷ []
 
-pub record Exchanged (w : Result) (q : ℕ) (l l' r r' : List ℕ) : Type 0 where
+pub record Exchanged (w : Wanted) (q : ℕ) (l l' r r' : List ℕ) : Type 0 where
   -- a report array of fewer than 2 elements is refused with the status 4, and nothing is touched
   pub short_status : length r < 2 → q ≡ 4
   pub short_report : length r < 2 → r' ≡ r

@@ -11,28 +11,30 @@ ghost use Rattle.termfile.specs.Output.{overlay};
 ghost use Rattle.binary.specs.Answer.{imported, exported, told};
 ghost use Rattle.exchange.specs.Exchange.{exchange_status, exchange_numbers, Exchanged};
 
-use binary::Converted;
+use binary::Refusal;
 
 // Writes the numbers of an answer, and answers its status.
-fn write_converted(answer: Converted, report: &mut [u64]) -> u32
+fn write_answer(answer: Result<usize, Refusal>, report: &mut [u64]) -> u32
     requires { 2 ≤ length report.old }
     ensures status { result ≡ exchange_status (told answer) }
     ensures numbers { report.new ≡ overlay (exchange_numbers (told answer)) report.old }
 {
     match answer {
-        Converted::Written(n) => {
+        Ok(n) => {
             report[0] = 0;
             report[1] = n as u64;
             0
         }
-        Converted::Refused(why) => {
-            report[0] = binary::number(why);
+        Err(why) => {
+            report[0] = why.number();
             report[1] = 0;
             3
         }
     }
 }
 
+// Makes a term file from bits. `glow_export` differs in what it is given and what it calls: one function
+// for both would take a closure that is longer than what they share.
 pub fn glow_import(bits: &[u8], f: u32, out: &mut [u8], report: &mut [u64]) -> u32
     ensures { Exchanged (imported f bits.now) result out.old out.new report.old report.new }
 {
@@ -40,9 +42,10 @@ pub fn glow_import(bits: &[u8], f: u32, out: &mut [u8], report: &mut [u64]) -> u
         return 4;
     }
     let answer = importing::import(bits, f as usize, out);
-    write_converted(answer, report)
+    write_answer(answer, report)
 }
 
+// Makes bits from a term file.
 pub fn glow_export(file: &[u8], out: &mut [u8], report: &mut [u64]) -> u32
     ensures { Exchanged (exported file.now) result out.old out.new report.old report.new }
 {
@@ -50,5 +53,5 @@ pub fn glow_export(file: &[u8], out: &mut [u8], report: &mut [u64]) -> u32
         return 4;
     }
     let answer = exporting::export(file, out);
-    write_converted(answer, report)
+    write_answer(answer, report)
 }

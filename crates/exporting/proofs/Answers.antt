@@ -1,31 +1,29 @@
 -- What export answers: the refusal of the file, or the bits of its term.
 -- Assumes nothing.
-use Prim.Native.Nat.{ℕ, ◌+◌, ◌-◌, ◌≤◌}
+use Prim.Native.Nat.{ℕ, ◌+◌, ◌-◌}
 use mathlib.Core.Path.{◌≡◌, ap, subst⁻¹, ◌∙◌}
 use mathlib.Core.Bool.{true}
 use mathlib.Core.List.{List, []}
-use mathlib.Core.Option.{none, some}
+use mathlib.Core.Option.{none}
 use native.Mathlib.Omega.{arith}
-use lib.ListN.{length, take, drop}
+use lib.ListN.{take, drop}
 use Rattle.termfile.specs.Code.{Code, numbered, scoped}
 use Rattle.termfile.specs.Meaning.{term_of}
 use Rattle.termfile.specs.Nodes.{write, read}
 use Rattle.termfile.specs.File.{free_names, node_count, tags, nodes, code_from, refusal, counts}
 use Rattle.termfile.specs.Passes.{Framed}
 use Rattle.termfile.proofs.Reading.{read-write}
+use Rattle.termfile.specs.Answer.{accepted, answer}
+use Rattle.termfile.proofs.Told.{file-accepted}
 use Rattle.termfile.proofs.Acceptance as acceptance
 use Rattle.binary.specs.Bits.{bits, pack}
-use Rattle.binary.specs.Answer.{number, bytes, bits_unless, exported}
-use Rattle.exporting.specs.Measuring.{Measurable, Enough}
+use Rattle.binary.specs.Answer.{bytes, bits_unless, exported}
+use Rattle.exporting.specs.Measuring.{Measurable}
 use Rattle.termfile.specs.declared.Counts.{Counts}
 
-pub refused-number : (s : List ℕ) (n : ℕ) → refusal s ≡ some n → exported s ≡ number n
-refused-number s n e = ap (λ o. bits_unless o s) e
-
--- an accepted file in arrays that have room
-measurable : (s : List ℕ) (r : Counts) → refusal s ≡ none → r ≡ counts s → (ks ls ds : List ℕ) → r.nodes ≤ length ks → r.nodes ≤ length ls
-    → r.nodes ≤ length ds → Measurable s r.nodes r.free ks ls ds
-measurable s r e counted ks ls ds long-ks long-ls long-ds =
+-- an accepted file stands for a code
+measurable : (s : List ℕ) (r : Counts) → refusal s ≡ none → r ≡ counts s → Measurable s r.nodes r.free
+measurable s r e counted =
     let file = acceptance.accepted s e in
     let n : r.nodes ≡ node_count s = ap (λ k. k.nodes) counted in
     let f : r.free ≡ free_names s = ap (λ k. k.free) counted in
@@ -45,9 +43,6 @@ measurable s r e counted ks ls ds long-ks long-ls long-ds =
             in_order = subst⁻¹ (λ k. numbered k file.code ≡ true) f file.in_order;
             in_scope = subst⁻¹ (λ k. scoped k [] file.code ≡ true) f file.in_scope;
           };
-      indices_long = long-ks;
-      levels_long = long-ls;
-      depths_long = long-ds;
     }
 
 -- the bits of the code that a file's nodes stand for
@@ -61,6 +56,6 @@ tags-part {s} {n} h =
     let e : 4 + n - 4 ≡ node_count s = omega (arith, h.count) in
     ap (λ k. take k (drop 4 s)) e
 
-pub enough : (s : List ℕ) (r : Counts) → refusal s ≡ none → r ≡ counts s → Enough s r.nodes r.free
-enough s r e counted =
-    record { few = omega (arith, (acceptance.accepted s e).nodes_limit, ap (λ k. k.nodes) counted); measurable = measurable s r e counted }
+-- the same of a file that the check accepts
+pub stands : (s : List ℕ) (r : Counts) → accepted r ≡ answer s → Measurable s r.nodes r.free
+stands s r told = let w = file-accepted s r told in measurable s r w.0 w.1

@@ -14,7 +14,7 @@ use Rattle.termfile.specs.Meaning.{meaning, term_of}
 use Rattle.termfile.specs.Nodes.{Node, write}
 use Rattle.termfile.specs.File.{tags, arguments, nodes}
 use Rattle.termfile.proofs.Bytes as bytes
-use Rattle.termfile.proofs.Frame.{exact, nodes-next}
+use Rattle.termfile.proofs.Frame.{exact, tag_at, nodes-next}
 use Rattle.termfile.proofs.Naming.{values}
 use Rattle.binary.specs.Bits.{index, bits}
 use Rattle.binary.specs.Stacks.{Stacked}
@@ -296,3 +296,20 @@ module _ {s : List ℕ} {n f : ℕ} {c : Code} (coded : Coded s n f c) {i : ℕ}
                         };
                   };
             }
+
+-- The same of the byte that is the node's tag
+
+module _ {s : List ℕ} {n f : ℕ} {c : Code} (coded : Coded s n f c) {i : ℕ} (less : i < n) {ks ls ds : List ℕ} {w : Walk} (h : Walks s f c i ks ls ds w) where
+  tag-here : get_or s (4 + i) 0 ≡ get_or (tags s) i 0
+  tag-here = sym (tag_at s coded.framed.count (exact coded.framed) i less)
+
+  pub variable-here : {m : ℕ} → get_or s (4 + i) 0 ≡ 0 → m ≡ get_or (arguments s) i 0 → n ≤ length ks → n ≤ length ls → AtVariable s f c i ks ls ds w m
+  variable-here tag argument = at-variable coded less h tag-here argument tag coded.framed.most
+
+  pub abstraction-here : {m : ℕ} → get_or s (4 + i) 0 ≡ 1 → m ≡ get_or (arguments s) i 0 → n ≤ length ks → n ≤ length ls
+      → AtAbstraction s f c i ks ls ds w m
+  abstraction-here tag argument = at-abstraction coded less h tag-here argument tag coded.framed.most
+
+  pub application-here : (get_or s (4 + i) 0 ≡ 0 → ⊥) → (get_or s (4 + i) 0 ≡ 1 → ⊥) → n ≤ length ks → n ≤ length ds
+      → AtApplication s f c i ks ls ds w
+  application-here not-zero not-one = at-application coded less h tag-here refl not-zero not-one coded.framed.most

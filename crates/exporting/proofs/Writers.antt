@@ -9,6 +9,7 @@ use native.Mathlib.Nat.{pow-suc, mul_assoc}
 use native.Mathlib.Omega.{arith}
 use native.Mathlib.Numerals.{add-one}
 use lib.Dec.{eqb}
+use mir.Val.{bool_byte}
 use lib.ListN.{length, take, drop, set, replicate, length-append, length-set, take-append-drop}
 use lib.Pow.{pow_mono, shl_lt, shr-shr}
 use lib.Seq.{take-suc-set, drop-set-lt, drop-drop, length-take-le}
@@ -130,6 +131,11 @@ module _ (p : Writer) (b : ℕ) (bit : b ≤ 1) (l : List ℕ) where
               same_length = length-set l p.at shifted ∙ w.same_length;
             };
       }
+
+-- a bit as a number
+pub bit-is : (q : Bool) (b : ℕ) → b ≡ bool_byte q → (b ≤ 1) × (eqb b 1 ≡ q)
+bit-is true b e = (omega arith, ap (λ x. eqb x 1) e)
+bit-is false b e = (omega arith, ap (λ x. eqb x 1) e)
 
 -- Bits behind each other
 

@@ -3,7 +3,7 @@
 use Rattle.std.specs.Prelude.{ℕ, ◌+◌, ◌-◌, ◌*◌, ◌≤◌, ◌<◌, ◌≡◌, cond, List, ltb, length, get_or, take}
 use Rattle.termfile.specs.Code.{Code}
 use Rattle.termfile.specs.Meaning.{term_of}
-use Rattle.termfile.specs.File.{max_nodes, tags}
+use Rattle.termfile.specs.File.{tags}
 use Rattle.binary.specs.Bits.{bits}
 use Rattle.exporting.specs.Tokens.{tokens, Coded}
 use Rattle.exporting.specs.declared.measuring.Walk.{Walk}
@@ -31,18 +31,10 @@ pub record Small (w : Walk) (most : ℕ) : Type 0 where
   pub pending_small : w.pending ≤ most
   pub total_small : w.total ≤ 32770 * most
 
--- the file stands for a code, and the arrays have room for its nodes
-pub record Measurable (s : List ℕ) (n f : ℕ) (ks ls ds : List ℕ) : Type 0 where
+-- the file stands for a code
+pub record Measurable (s : List ℕ) (n f : ℕ) : Type 0 where
   pub code : Code
   pub coded : Coded s n f code
-  pub indices_long : n ≤ length ks
-  pub levels_long : n ≤ length ls
-  pub depths_long : n ≤ length ds
-
--- the same in whatever arrays that are long enough; a file has at most 16,384 nodes
-pub record Enough (s : List ℕ) (n f : ℕ) : Type 0 where
-  pub few : n ≤ max_nodes
-  pub measurable : (ks ls ds : List ℕ) → n ≤ length ks → n ≤ length ls → n ≤ length ds → Measurable s n f ks ls ds
 
 -- the number of bits, and an index for each variable, by which they are put
 pub record Measures (s : List ℕ) (n : ℕ) (ks : List ℕ) (c : Code) (r : ℕ) : Type 0 where

@@ -1,6 +1,6 @@
 // Export: the bits of the term of a file, in binary lambda calculus. `export` takes any bytes and an
-// output of any length, and promises the answer that request 1 of paper 02 gives for them. It takes
-// time linear in the nodes and the bits, and no function calls itself, however deep the term is.
+// output of any length, and promises the answer that `exported` in binary/specs/Answer defines for them. It
+// takes time linear in the nodes and the bits, and no function calls itself, however deep the term is.
 // Refused are, in this order:
 //
 //   1 to 7 File    the file is not a term file
@@ -13,78 +13,47 @@ mod writing;
 
 ghost use Rattle.std.specs.Prelude.{◌≡◌, ◌≤◌};
 ghost use Rattle.std.proofs.Math.Option.{none};
-ghost use Rattle.termfile.specs.File.{refusal};
+ghost use Rattle.termfile.specs.File.{refusal, max_nodes};
 ghost use Rattle.binary.specs.Answer.{exported, Converts};
-ghost use Rattle.exporting.specs.Measuring.{Measurable, Enough};
+ghost use Rattle.exporting.specs.Measuring.{Measurable};
 
-use binary::{Converted, Refusal};
-use measuring::measure;
-use termfile::{Checked, check};
+use binary::Refusal;
+use measuring::{Scratch, measure};
+use termfile::{MAX_NODES, check};
 use writing::write_bits;
 
-// The most nodes of a term file.
-const MAX_NODES: usize = 16384;
+// The most nodes for which small arrays are taken, and arrays of middle size. To zero large ones takes
+// longer than all else that a small file asks for.
+const SMALL: usize = 64;
 
-// Writes the bits of a file with f free names and n nodes, where the output has room for them. The
-// arrays are for its own use.
-fn export_in(
+const MIDDLE: usize = 1024;
+
+// Writes the bits of a file with f free names and n nodes, at most N, where the output has room for them.
+fn export_with<const N: usize>(
     file: &[u8],
     n: usize,
     f: usize,
-    indices: &mut [u16],
-    levels: &mut [u16],
-    depths: &mut [u16],
     out: &mut [u8],
-) -> Converted
-    requires file_value { refusal file.now ≡ none }
-    requires measurable { Measurable file.now n f indices.old levels.old depths.old }
+) -> Result<usize, Refusal>
+    requires accepted { refusal file.now ≡ none }
+    requires measurable { Measurable file.now n f }
+    requires room { n ≤ N }
+    requires few_nodes { N ≤ max_nodes }
     ensures { Converts (exported file.now) result out.old out.new }
 {
-    let bits = measure(file, n, f, indices, levels, depths);
+    let mut scratch = Scratch {
+        indices: [0u16; N],
+        levels: [0u16; N],
+        depths: [0u16; N],
+    };
+    let bits = measure(file, n, f, &mut scratch);
     let bytes = (bits + 7) / 8;
     if out.len() < bytes {
-        return Converted::Refused(Refusal::Output);
+        return Err(Refusal::Output);
     }
     let end = 4 + n;
-    write_bits(out, &file[4..end], &indices[..n]);
-    Converted::Written(bytes)
-}
-
-// The same with arrays of its own, for files of at most 64 nodes, at most 1,024, and any. To zero large
-// arrays takes longer than all else that a small file asks for.
-fn export_small(file: &[u8], n: usize, f: usize, out: &mut [u8]) -> Converted
-    requires file_value { refusal file.now ≡ none }
-    requires enough { Enough file.now n f }
-    requires n_bound { n ≤ 64 }
-    ensures { Converts (exported file.now) result out.old out.new }
-{
-    let mut indices = [0u16; 64];
-    let mut levels = [0u16; 64];
-    let mut depths = [0u16; 64];
-    export_in(file, n, f, &mut indices, &mut levels, &mut depths, out)
-}
-
-fn export_middle(file: &[u8], n: usize, f: usize, out: &mut [u8]) -> Converted
-    requires file_value { refusal file.now ≡ none }
-    requires enough { Enough file.now n f }
-    requires n_bound { n ≤ 1024 }
-    ensures { Converts (exported file.now) result out.old out.new }
-{
-    let mut indices = [0u16; 1024];
-    let mut levels = [0u16; 1024];
-    let mut depths = [0u16; 1024];
-    export_in(file, n, f, &mut indices, &mut levels, &mut depths, out)
-}
-
-fn export_large(file: &[u8], n: usize, f: usize, out: &mut [u8]) -> Converted
-    requires file_value { refusal file.now ≡ none }
-    requires enough { Enough file.now n f }
-    ensures { Converts (exported file.now) result out.old out.new }
-{
-    let mut indices = [0u16; MAX_NODES];
-    let mut levels = [0u16; MAX_NODES];
-    let mut depths = [0u16; MAX_NODES];
-    export_in(file, n, f, &mut indices, &mut levels, &mut depths, out)
+    write_bits(out, &file[4..end], &scratch.indices[..n]);
+    Ok(bytes)
 }
 
 // Exports the term of a file: writes its bits at the front of `out`, the last byte filled with zeros,
@@ -93,20 +62,16 @@ fn export_large(file: &[u8], n: usize, f: usize, out: &mut [u8]) -> Converted
 //
 // Ruled out, for instance: the bits of a byte put from the lowest on, one 1 too few for a free name,
 // and bits written before they are known to fit (must-fail/).
-pub fn export(file: &[u8], out: &mut [u8]) -> Converted
+pub fn export(file: &[u8], out: &mut [u8]) -> Result<usize, Refusal>
     ensures { Converts (exported file.now) result out.old out.new }
 {
-    match check(file) {
-        Checked::Refused(why) => Converted::Refused(Refusal::File(why)),
-        Checked::Accepted(counts) => {
-            let n = counts.nodes;
-            if n <= 64 {
-                return export_small(file, n, counts.free, out);
-            }
-            if n <= 1024 {
-                return export_middle(file, n, counts.free, out);
-            }
-            export_large(file, n, counts.free, out)
-        }
+    let counts = check(file)?;
+    let n = counts.nodes;
+    if n <= SMALL {
+        return export_with::<SMALL>(file, n, counts.free, out);
     }
+    if n <= MIDDLE {
+        return export_with::<MIDDLE>(file, n, counts.free, out);
+    }
+    export_with::<MAX_NODES>(file, n, counts.free, out)
 }

@@ -17,7 +17,17 @@ pub struct Walk {
     pub total: usize,
 }
 
-// The argument of node i.
+// Arrays for an export's own use, with room for N nodes: the index of each variable, the level of each
+// abstraction by its number, and the depths of the right parts that are to come.
+#[derive(Drop)]
+pub struct Scratch<const N: usize> {
+    pub indices: [u16; N],
+    pub levels: [u16; N],
+    pub depths: [u16; N],
+}
+
+// The argument of node i. The layout is termfile's own, and it has no public function for it, since that would
+// ask its callers for a file that is framed.
 fn argument_at(file: &[u8], n: usize, i: usize) -> usize
     requires framed { Framed file.now n }
     requires i_lt_n { i < n }
@@ -43,7 +53,7 @@ fn index_of(levels: &[u16], f: usize, depth: usize, x: usize) -> usize
 // Behind a variable with the index k.
 fn pass_variable(depths: &[u16], walk: Walk, k: usize) -> Walk
     requires pending_in_bounds { walk.pending ≤ length depths.now }
-    requires k_bound { walk.total + (k + 2) < 4294967296 }
+    requires few_bits { walk.total + (k + 2) < 4294967296 }
     ensures { result ≡ passed_variable depths.now walk k }
 {
     let total = walk.total + (k + 2);
@@ -67,8 +77,8 @@ fn pass_variable(depths: &[u16], walk: Walk, k: usize) -> Walk
 fn pass_abstraction(levels: &mut [u16], walk: Walk, number: usize) -> Walk
     requires number_in_bounds { number < length levels.old }
     requires small { Small walk 16384 }
-    ensures at { result ≡ passed_abstraction walk }
-    ensures level { levels.new ≡ set levels.old number walk.depth }
+    ensures onward { result ≡ passed_abstraction walk }
+    ensures kept { levels.new ≡ set levels.old number walk.depth }
 {
     levels[number] = walk.depth as u16;
     Walk {
@@ -82,8 +92,8 @@ fn pass_abstraction(levels: &mut [u16], walk: Walk, number: usize) -> Walk
 fn pass_application(depths: &mut [u16], walk: Walk) -> Walk
     requires pending_in_bounds { walk.pending < length depths.old }
     requires small { Small walk 16384 }
-    ensures at { result ≡ passed_application walk }
-    ensures level { depths.new ≡ set depths.old walk.pending walk.depth }
+    ensures onward { result ≡ passed_application walk }
+    ensures kept { depths.new ≡ set depths.old walk.pending walk.depth }
 {
     let pending = walk.pending;
     depths[pending] = walk.depth as u16;
@@ -94,42 +104,33 @@ fn pass_application(depths: &mut [u16], walk: Walk) -> Walk
     }
 }
 
-// Counts the bits of a term, and leaves the index of each variable in `indices`. At each turn the
-// first i nodes are passed. `levels` and `depths` are for its own use.
-pub fn measure(
-    file: &[u8],
-    n: usize,
-    f: usize,
-    indices: &mut [u16],
-    levels: &mut [u16],
-    depths: &mut [u16],
-) -> usize
-    requires { Measurable file.now n f indices.old levels.old depths.old }
-    ensures { (c : Code) → Coded file.now n f c → Measures file.now n indices.new c result }
+// Counts the bits of a term, and leaves the index of each variable in the array of indices. At each turn
+// the first i nodes are passed. A tag is a number and no enum, since it is a byte of the file.
+pub fn measure<const N: usize>(file: &[u8], n: usize, f: usize, scratch: &mut Scratch<N>) -> usize
+    requires measurable { Measurable file.now n f }
+    requires room { n ≤ N }
+    ensures { (c : Code) → Coded file.now n f c → Measures file.now n scratch.new.indices c result }
 {
     let mut walk = Walk {
         depth: 0,
         pending: 0,
         total: 0,
     };
-    let mut i = 0;
-    while i < n {
-        let at = i;
-        i += 1;
-        let tag = file[4 + at];
+    for i in 0..n {
+        let tag = file[4 + i];
         match tag {
             0 => {
-                let name = argument_at(file, n, at);
-                let k = index_of(levels, f, walk.depth, name);
-                indices[at] = k as u16;
-                walk = pass_variable(depths, walk, k);
+                let name = argument_at(file, n, i);
+                let k = index_of(&scratch.levels, f, walk.depth, name);
+                scratch.indices[i] = k as u16;
+                walk = pass_variable(&scratch.depths, walk, k);
             }
             1 => {
-                let name = argument_at(file, n, at);
-                walk = pass_abstraction(levels, walk, name - f);
+                let name = argument_at(file, n, i);
+                walk = pass_abstraction(&mut scratch.levels, walk, name - f);
             }
             _ => {
-                walk = pass_application(depths, walk);
+                walk = pass_application(&mut scratch.depths, walk);
             }
         }
     }

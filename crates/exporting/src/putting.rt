@@ -1,12 +1,13 @@
 // Bits put into an array, one by one, from the highest of each byte on.
-ghost use Rattle.std.specs.Prelude.{◌≡◌, Bool, List, [], ◌∷◌, ℕ, ◌+◌, ◌≤◌, eqb, length};
+ghost use Rattle.std.specs.Prelude.{◌≡◌, Bool, List, [], ◌∷◌, ℕ, ◌+◌, ◌≤◌, length};
 ghost use Rattle.termfile.specs.Output.{overlay};
 ghost use Rattle.binary.specs.Bits.{index, pack};
 ghost use Rattle.exporting.specs.Tokens.{token};
 ghost use Rattle.exporting.specs.Putting.{Put, Room, Puts};
 
 // Where bits are put: how many bytes are full, and of the byte that is begun its bits and how many
-// they are.
+// they are. The functions below take the array and answer the next writer: as methods they would take the
+// same.
 #[derive(Clone, Copy)]
 pub struct Writer {
     pub at: usize,
@@ -15,13 +16,12 @@ pub struct Writer {
 }
 
 // Puts one bit.
-fn put_bit(out: &mut [u8], writer: Writer, bit: u8) -> Writer
-    requires bit_bound { bit ≤ 1 }
-    requires room { Room writer 1 (length out.old) }
-    ensures { Puts (eqb bit 1 ∷ []) writer out.old result out.new }
+fn put_bit(out: &mut [u8], writer: Writer, bit: bool) -> Writer
+    requires { Room writer 1 (length out.old) }
+    ensures { Puts (bit ∷ []) writer out.old result out.new }
 {
     let at = writer.at;
-    let byte = (writer.byte << 1) + bit;
+    let byte = (writer.byte << 1) + u8::from(bit);
     let count = writer.count + 1;
     if count < 8 {
         return Writer { at, byte, count };
@@ -34,19 +34,17 @@ fn put_bit(out: &mut [u8], writer: Writer, bit: u8) -> Writer
     }
 }
 
-// Puts the ones and the zero of an index. At each turn i of the ones are put.
+// Puts the ones and the zero of an index. At each turn some of the ones are put.
 fn put_index(out: &mut [u8], writer: Writer, k: u16) -> Writer
     requires { Room writer (k + 2) (length out.old) }
     ensures { Puts (index k) writer out.old result out.new }
 {
     let ones = k as usize + 1;
     let mut p = writer;
-    let mut i: usize = 0;
-    while i < ones {
-        p = put_bit(out, p, 1);
-        i += 1;
+    for _ in 0..ones {
+        p = put_bit(out, p, true);
     }
-    put_bit(out, p, 0)
+    put_bit(out, p, false)
 }
 
 // Puts the bits of a node alone; k is the index of a variable.
@@ -57,12 +55,12 @@ pub fn put_node(out: &mut [u8], writer: Writer, tag: u8, k: u16) -> Writer
     match tag {
         0 => put_index(out, writer, k),
         1 => {
-            let first = put_bit(out, writer, 0);
-            put_bit(out, first, 0)
+            let first = put_bit(out, writer, false);
+            put_bit(out, first, false)
         }
         _ => {
-            let first = put_bit(out, writer, 0);
-            put_bit(out, first, 1)
+            let first = put_bit(out, writer, false);
+            put_bit(out, first, true)
         }
     }
 }

@@ -9,8 +9,8 @@ use crate::putting::{Writer, finish, put_node};
 // Writes the bits of nodes with these tags, whose variables have these indices. At each turn the
 // bits of the first i nodes are put.
 pub fn write_bits(out: &mut [u8], tags: &[u8], indices: &[u16])
-    requires tags_len { length tags.now ≡ length indices.now }
-    requires indices_len_bound { length (tokens tags.now indices.now) ≤ 8 * length out.old }
+    requires same_length { length tags.now ≡ length indices.now }
+    requires room { length (tokens tags.now indices.now) ≤ 8 * length out.old }
     ensures { out.new ≡ overlay (pack (tokens tags.now indices.now)) out.old }
 {
     let mut writer = Writer {
@@ -18,12 +18,8 @@ pub fn write_bits(out: &mut [u8], tags: &[u8], indices: &[u16])
         byte: 0,
         count: 0,
     };
-    let mut i = 0;
-    while i < tags.len() {
-        let tag = tags[i];
-        let k = indices[i];
-        writer = put_node(out, writer, tag, k);
-        i += 1;
+    for (i, tag) in tags.iter().enumerate() {
+        writer = put_node(out, writer, *tag, indices[i]);
     }
     finish(out, writer);
 }

@@ -10,7 +10,7 @@ use borrow.Author.Tests.{lt-ltb, le-ltb}
 use Rattle.binary.specs.Bits.{low_bits, bits_in}
 use Rattle.binary.specs.Answer.{zeros, padding}
 use Rattle.binary.proofs.Packing.{length-low_bits, length-bits_in}
-use Rattle.importing.specs.Ahead.{ahead, Sound}
+use Rattle.importing.specs.Ahead.{ahead}
 use Rattle.importing.specs.declared.cursor.Cursor.{Cursor}
 
 module _ (s : List ℕ) (c : Cursor) where
@@ -29,5 +29,5 @@ module _ (s : List ℕ) (c : Cursor) where
   spare-byte h = ap (λ q. q && zeros (ahead s c)) (sym (le-ltb (length (ahead s c)) 8 (omega (arith, length-ahead))))
 
   -- else the zeros alone decide
-  pub last_byte : Sound c → length s ≤ c.at → padding (ahead s c) ≡ zeros (ahead s c)
-  last_byte few h = ap (λ q. q && zeros (ahead s c)) (lt-ltb (length (ahead s c)) 8 (omega (arith, length-ahead)))
+  pub last_byte : length s ≤ c.at → padding (ahead s c) ≡ zeros (ahead s c)
+  last_byte h = ap (λ q. q && zeros (ahead s c)) (lt-ltb (length (ahead s c)) 8 (omega (arith, length-ahead, c.begun)))

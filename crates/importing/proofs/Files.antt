@@ -2,53 +2,36 @@
 -- Assumes nothing.
 use Prim.Native.Nat.{ℕ, ◌+◌, ◌*◌, ◌/◌, ◌%◌, ◌≤◌, ◌<◌}
 use mathlib.Core.Path.{◌≡◌, sym, ap, ◌∙◌}
-use mathlib.Core.List.{List, [], ◌∷◌, ◌++◌}
+use mathlib.Core.List.{List, [], ◌∷◌, ◌++◌, append_assoc}
 use native.Mathlib.Omega.{arith}
 use native.Mathlib.Numerals.{add-one}
-use lib.ListN.{length, get_or, take, set, length-append}
-use lib.Seq.{sets, take-suc, take_all, length-take-le}
+use lib.ListN.{length, get_or, take, drop, set, length-append}
+use borrow.Rule.Slice.PartMut.{put_mid}
+use Rattle.std.proofs.lemmas.List.{drop-drop}
+use lib.Seq.{sets, sets-eq, take-suc, length-take-le}
 use Rattle.termfile.specs.Canonical.{word_bytes, words_bytes}
 use Rattle.termfile.specs.Output.{overlay}
 use Rattle.termfile.proofs.Bytes.{words_bytes-append, length-words_bytes}
-use Rattle.termfile.proofs.Sets.{sets-append, set_before, sets-front}
+use Rattle.termfile.proofs.Sets.{sets-append, sets-front}
 use Rattle.importing.specs.Writing.{file_bytes}
 
--- the first i of n nodes are stored behind the counts
-abbrev pub stored : List ℕ → List ℕ → List ℕ → ℕ → ℕ → List ℕ
-stored l ts ms n i = sets (sets l 4 (take i ts)) (4 + n) (words_bytes (take i ms))
+-- one number more behind those that are stored
+pub word-stored : (l ws : List ℕ) (at i : ℕ) → i < length ws
+    → set (set (sets l at (words_bytes (take i ws))) (at + 2 * i) (get_or ws i 0 % 256)) (at + 2 * i + 1) (get_or ws i 0 / 256)
+    ≡ sets l at (words_bytes (take (i + 1) ws))
+word-stored l ws at i less =
+    let w = words_bytes (take i ws) in
+    let e : at + 2 * i ≡ at + length w = omega (arith, length-words_bytes (take i ws), length-take-le i ws (omega arith)) in
+    ap (λ k. set (set (sets l at w) (at + 2 * i) (get_or ws i 0 % 256)) k (get_or ws i 0 / 256)) (add-one (at + 2 * i))
+    ∙ ap (λ k. sets (sets l at w) k (word_bytes (get_or ws i 0))) e ∙ sets-append w (word_bytes (get_or ws i 0)) at l
+    ∙ ap (sets l at) (sym (words_bytes-append (take i ws) (get_or ws i 0 ∷ []))) ∙ ap (λ m. sets l at (words_bytes m)) (sym (take-suc ws i 0 less))
+    ∙ ap (λ k. sets l at (words_bytes (take k ws))) (sym (add-one i))
 
-module _ (l ts ms : List ℕ) (n : ℕ) (n-tags : n ≡ length ts) (n-arguments : n ≡ length ms) where
-  module _ (i : ℕ) (less : i < n) where
-    tag-stored : set (sets l 4 (take i ts)) (4 + i) (get_or ts i 0) ≡ sets l 4 (take (i + 1) ts)
-    tag-stored =
-        let e : 4 + i ≡ 4 + length (take i ts) = omega (arith, length-take-le i ts (omega arith)) in
-        ap (λ k. set (sets l 4 (take i ts)) k (get_or ts i 0)) e ∙ sets-append (take i ts) (get_or ts i 0 ∷ []) 4 l
-        ∙ ap (sets l 4) (sym (take-suc ts i 0 (omega arith))) ∙ ap (λ k. sets l 4 (take k ts)) (sym (add-one i))
-
-    argument-stored : (a : List ℕ) → set (set (sets a (4 + n) (words_bytes (take i ms))) (4 + n + 2 * i) (get_or ms i 0 % 256)) (4 + n + 2 * i + 1) (get_or ms i 0 / 256)
-        ≡ sets a (4 + n) (words_bytes (take (i + 1) ms))
-    argument-stored a =
-        let w = words_bytes (take i ms) in
-        let e : 4 + n + 2 * i ≡ 4 + n + length w = omega (arith, length-words_bytes (take i ms), length-take-le i ms (omega arith)) in
-        ap (λ k. set (set (sets a (4 + n) w) (4 + n + 2 * i) (get_or ms i 0 % 256)) k (get_or ms i 0 / 256)) (add-one (4 + n + 2 * i))
-        ∙ ap (λ k. sets (sets a (4 + n) w) k (word_bytes (get_or ms i 0))) e ∙ sets-append w (word_bytes (get_or ms i 0)) (4 + n) a
-        ∙ ap (sets a (4 + n)) (sym (words_bytes-append (take i ms) (get_or ms i 0 ∷ []))) ∙ ap (λ m. sets a (4 + n) (words_bytes m)) (sym (take-suc ms i 0 (omega arith)))
-        ∙ ap (λ k. sets a (4 + n) (words_bytes (take k ms))) (sym (add-one i))
-
-    pub stored_more : (out : List ℕ) → out ≡ stored l ts ms n i
-        → set (set (set out (4 + i) (get_or ts i 0)) (4 + n + 2 * i) (get_or ms i 0 % 256)) (4 + n + 2 * i + 1) (get_or ms i 0 / 256) ≡ stored l ts ms n (i + 1)
-    stored_more out e =
-        ap (λ m. set (set m (4 + n + 2 * i) (get_or ms i 0 % 256)) (4 + n + 2 * i + 1) (get_or ms i 0 / 256))
-        (ap (λ o. set o (4 + i) (get_or ts i 0)) e
-        ∙ set_before (words_bytes (take i ms)) (4 + n) (4 + i) (get_or ts i 0) (sets l 4 (take i ts)) (omega arith)
-        ∙ ap (λ a. sets a (4 + n) (words_bytes (take i ms))) tag-stored)
-        ∙ argument-stored (sets l 4 (take (i + 1) ts))
-
-  -- all of them
-  pub stored-all : (i : ℕ) → n ≤ i → stored l ts ms n i ≡ sets (sets l 4 ts) (4 + n) (words_bytes ms)
-  stored-all i done =
-      ap (λ t. sets (sets l 4 t) (4 + n) (words_bytes (take i ms))) (take_all i ts (omega arith))
-      ∙ ap (λ m. sets (sets l 4 ts) (4 + n) (words_bytes m)) (take_all i ms (omega arith))
+-- a part that is overwritten
+pub part-stored : (l vs : List ℕ) (at k : ℕ) → length vs ≡ k → at + k ≤ length l → put_mid at k l vs ≡ sets l at vs
+part-stored l vs at k e h =
+    ap (λ z. take at l ++ (vs ++ z)) (drop-drop k at l ∙ ap (λ n. drop n l) (ap (λ n. at + n) (sym e)))
+    ∙ sym (append_assoc (take at l) vs (drop (at + length vs) l)) ∙ sym (sets-eq vs l at (omega arith))
 
 length-file_bytes : (f : ℕ) (ts ms : List ℕ) → length (file_bytes f ts ms) ≡ 4 + length ts + 2 * length ms
 length-file_bytes f ts ms = omega (arith, length-append ts (words_bytes ms), length-words_bytes ms)

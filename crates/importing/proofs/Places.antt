@@ -1,7 +1,7 @@
 -- What putting a node, and closing a left part, leave in the arrays: from one place to the next. The idea: a node is put behind the others, a
 -- name or an open application on top of a stack, and where a left part ends one store gives its application the part's size.
 -- Assumes nothing.
-use Prim.Native.Nat.{ℕ, suc, ◌+◌, ◌-◌, ◌≤◌}
+use Prim.Native.Nat.{ℕ, suc, ◌+◌, ◌-◌, ◌≤◌, ◌<◌}
 use mathlib.Core.Path.{◌≡◌, refl, sym, ap, ◌∙◌, subst}
 use mathlib.Core.Bool.{Bool, true, false, cond}
 use mathlib.Core.List.{List, [], ◌∷◌, ◌++◌, map, map-append}
@@ -16,24 +16,31 @@ use Rattle.termfile.specs.Canonical.{binders}
 use Rattle.binary.specs.Reading.{Place, body, left, depth, part, ended, variable}
 use Rattle.binary.specs.Stacks.{Stacked}
 use Rattle.binary.proofs.Stacks.{stacked-push, stacked-at}
-use Rattle.importing.specs.Holding.{next_name, around, nodes_of, nodes_to, open_at, Before, After, Ready, name_of, Closable}
+use Rattle.importing.specs.Holding.{next_name, around, nodes_of, nodes_to, open_at, Holds, Ready, name_of}
 use Rattle.importing.proofs.Holding.{laid_more, around_depth, nodes-size, nodes_few, Closes, Ends, ended_is}
 use Rattle.importing.specs.declared.placing.Spot.{Spot}
 
-module _ (f : ℕ) (p : Place) (st : Spot) (ts ms xs ys : List ℕ) (h : Before f p st ts ms xs ys) where
+-- `Before` and `After` of four arrays
+abbrev pub HoldsTo : ℕ → Place → Spot → List ℕ → List ℕ → List ℕ → List ℕ → Type 0
+HoldsTo f p st ts ms xs ys = Holds f p (nodes_to f p) (next_name f p) st ts ms xs ys
+
+abbrev pub HoldsPast : ℕ → Place → Term → Spot → List ℕ → List ℕ → List ℕ → List ℕ → Type 0
+HoldsPast f p t st ts ms xs ys = Holds f p (nodes_to f p ++ nodes_of f p t) (next_name f p + binders t) st ts ms xs ys
+
+module _ (f : ℕ) (p : Place) (st : Spot) (ts ms xs ys : List ℕ) (h : HoldsTo f p st ts ms xs ys) where
   -- an abstraction
-  pub before-body : Ready st (length ts) (length ms) (length xs)
-      → Before f (body p) (record { nodes = st.nodes + 1; depth = st.depth + 1; pending = st.pending; name = st.name + 1 })
+  pub before-body : (N : ℕ) → Ready st N → length ts ≡ N → length ms ≡ N → length xs ≡ N
+      → HoldsTo f (body p) (record { nodes = st.nodes + 1; depth = st.depth + 1; pending = st.pending; name = st.name + 1 })
       (set ts st.nodes 1) (set ms st.nodes st.name) (set xs st.depth st.name) ys
-  before-body r =
+  before-body N r all-tags all-arguments all-names =
       let x : Node = record { tag = 1; argument = next_name f p } in
       record {
         count = omega (arith, h.count, length-append (nodes_to f p) (x ∷ []));
-        tags_are = laid_more (λ n. n.tag) ts (nodes_to f p) x st.nodes 1 r.tag_fits h.tags_are refl;
-        arguments_are = laid_more (λ n. n.argument) ms (nodes_to f p) x st.nodes st.name r.argument_fits h.arguments_are h.name_is;
+        tags_are = laid_more (λ n. n.tag) ts (nodes_to f p) x st.nodes 1 (omega (arith, r.fits)) h.tags_are refl;
+        arguments_are = laid_more (λ n. n.argument) ms (nodes_to f p) x st.nodes st.name (omega (arith, r.fits)) h.arguments_are h.name_is;
         depth_is = omega (arith, h.depth_is);
         names_are =
-            stacked-push xs (around f p) st.depth st.name (next_name f p) h.depth_is (omega (arith, r.few_deep, r.other_fits)) h.name_is
+            stacked-push xs (around f p) st.depth st.name (next_name f p) h.depth_is (omega (arith, r.few_deep, r.fits)) h.name_is
             h.names_are;
         open_is = h.open_is;
         open_are = h.open_are;
@@ -41,22 +48,22 @@ module _ (f : ℕ) (p : Place) (st : Spot) (ts ms xs ys : List ℕ) (h : Before 
       }
 
   -- an application
-  pub before-left : Ready st (length ts) (length ms) (length ys)
-      → Before f (left p) (record { nodes = st.nodes + 1; depth = st.depth; pending = st.pending + 1; name = st.name })
+  pub before-left : (N : ℕ) → Ready st N → length ts ≡ N → length ms ≡ N → length ys ≡ N
+      → HoldsTo f (left p) (record { nodes = st.nodes + 1; depth = st.depth; pending = st.pending + 1; name = st.name })
       (set ts st.nodes 2) (set ms st.nodes st.depth) xs (set ys st.pending st.nodes)
-  before-left r =
+  before-left N r all-tags all-arguments all-open =
       let x : Node = record { tag = 2; argument = depth p } in
       record {
         count = omega (arith, h.count, length-append (nodes_to f p) (x ∷ []));
-        tags_are = laid_more (λ n. n.tag) ts (nodes_to f p) x st.nodes 2 r.tag_fits h.tags_are refl;
+        tags_are = laid_more (λ n. n.tag) ts (nodes_to f p) x st.nodes 2 (omega (arith, r.fits)) h.tags_are refl;
         arguments_are =
-            laid_more (λ n. n.argument) ms (nodes_to f p) x st.nodes st.depth r.argument_fits h.arguments_are
+            laid_more (λ n. n.argument) ms (nodes_to f p) x st.nodes st.depth (omega (arith, r.fits)) h.arguments_are
             (h.depth_is ∙ around_depth f p);
         depth_is = h.depth_is;
         names_are = h.names_are;
         open_is = omega (arith, h.open_is);
         open_are =
-            stacked-push ys (open_at f p) st.pending st.nodes (length (nodes_to f p)) h.open_is (omega (arith, r.few_open, r.other_fits))
+            stacked-push ys (open_at f p) st.pending st.nodes (length (nodes_to f p)) h.open_is (omega (arith, r.few_open, r.fits))
             h.count h.open_are;
         name_is = h.name_is;
       }
@@ -78,19 +85,19 @@ module _ (f : ℕ) (p : Place) (st : Spot) (ts ms xs ys : List ℕ) (h : Before 
       ∙ stacked-at xs (around f p) k (omega (arith, ltb-true k st.depth e, h.depth_is)) h.names_are
   name-pick false k e = refl
 
-  pub after-variable : (k : ℕ) → Ready st (length ts) (length ms) (length xs)
-      → After f p (variable st.depth k) (record { nodes = st.nodes + 1; depth = st.depth; pending = st.pending; name = st.name })
+  pub after-variable : (N k : ℕ) → Ready st N → length ts ≡ N → length ms ≡ N
+      → HoldsPast f p (variable st.depth k) (record { nodes = st.nodes + 1; depth = st.depth; pending = st.pending; name = st.name })
       (set ts st.nodes 0) (set ms st.nodes (name_of xs st.depth k)) xs ys
-  after-variable k r =
+  after-variable N k r all-tags all-arguments =
       let q = ltb k st.depth in
       let x : Node = record { tag = 0; argument = cond q (get_or (around f p) k 0) (k - st.depth) } in
       let e : nodes_to f p ++ (x ∷ []) ≡ nodes_to f p ++ nodes_of f p (variable st.depth k)
       = ap (λ l. nodes_to f p ++ l) (sym (nodes-pick q k (k - st.depth))) in
       record {
         count = omega (arith, h.count, length-append (nodes_to f p) (x ∷ []), ap length e);
-        tags_are = laid_more (λ n. n.tag) ts (nodes_to f p) x st.nodes 0 r.tag_fits h.tags_are refl ∙ ap (map (λ n. n.tag)) e;
+        tags_are = laid_more (λ n. n.tag) ts (nodes_to f p) x st.nodes 0 (omega (arith, r.fits)) h.tags_are refl ∙ ap (map (λ n. n.tag)) e;
         arguments_are =
-            laid_more (λ n. n.argument) ms (nodes_to f p) x st.nodes (name_of xs st.depth k) r.argument_fits h.arguments_are
+            laid_more (λ n. n.argument) ms (nodes_to f p) x st.nodes (name_of xs st.depth k) (omega (arith, r.fits)) h.arguments_are
             (name-pick q k refl)
             ∙ ap (map (λ n. n.argument)) e;
         depth_is = h.depth_is;
@@ -101,7 +108,7 @@ module _ (f : ℕ) (p : Place) (st : Spot) (ts ms xs ys : List ℕ) (h : Before 
       }
 
 -- the end of a left part: its application gets its size, and the right part is next
-module _ (f : ℕ) (p q : Place) (t : Term) (st : Spot) (ts ms xs ys : List ℕ) (e : ended p t ≡ part q) (h : After f p t st ts ms xs ys) where
+module _ (f : ℕ) (p q : Place) (t : Term) (st : Spot) (ts ms xs ys : List ℕ) (e : ended p t ≡ part q) (h : HoldsPast f p t st ts ms xs ys) where
   pub closes : Closes f p t q
   closes = subst (Ends f p t) e (ended_is f p t)
 
@@ -148,24 +155,24 @@ module _ (f : ℕ) (p q : Place) (t : Term) (st : Spot) (ts ms xs ys : List ℕ)
       ∙ sym (map-append (λ n. n.tag) before (record { tag = 2; argument = size closes.left_part } ∷ behind))
 
   -- so the application that is closed is one of the nodes
-  pub closable : st.nodes ≤ length ms → st.nodes ≤ length ys → st.nodes ≤ 32768 → Closable st (length ms) ys
-  closable fits-arguments fits-apps few =
+  pub closes-node : get_or ys (st.pending - 1) 0 < st.nodes
+  closes-node = omega (arith, top-is, nodes-count)
+
+  pub some-open : 1 ≤ st.pending
+  some-open = omega (arith, h.open_is, ap length closes.open_are)
+
+  pub few-open : st.pending ≤ st.nodes
+  few-open =
       let n = nodes_few f p in
       let l = length-append (nodes_to f p) (nodes_of f p t) in
-      record {
-        some_open = omega (arith, h.open_is, ap length closes.open_are);
-        within_apps = omega (arith, h.open_is, h.count, n.applications);
-        application = omega (arith, top-is, nodes-count);
-        within_arguments = fits-arguments;
-        few_nodes = few;
-      }
+      omega (arith, h.open_is, h.count, n.applications)
 
-  pub before-right : Before f q
+  pub before-right : HoldsTo f q
       (record { nodes = st.nodes; depth = get_or ms (get_or ys (st.pending - 1) 0) 0; pending = st.pending - 1; name = st.name })
       ts (set ms (get_or ys (st.pending - 1) 0) (st.nodes - get_or ys (st.pending - 1) 0 - 1)) xs ys
   before-right =
       subst
-      (λ z. Before f z (record { nodes = st.nodes; depth = get_or ms (get_or ys (st.pending - 1) 0) 0; pending = st.pending - 1; name = st.name })
+      (λ z. HoldsTo f z (record { nodes = st.nodes; depth = get_or ms (get_or ys (st.pending - 1) 0) 0; pending = st.pending - 1; name = st.name })
       ts (set ms (get_or ys (st.pending - 1) 0) (st.nodes - get_or ys (st.pending - 1) 0 - 1)) xs ys)
       (sym closes.is_right)
       (record {

@@ -8,6 +8,7 @@ use Rattle.termfile.specs.Canonical.{binders, naming}
 use Rattle.binary.specs.Stacks.{Stacked}
 use Rattle.binary.specs.Reading.{Place, whole, body, left, right, depth}
 use Rattle.importing.specs.declared.placing.Spot.{Spot}
+use Rattle.importing.specs.declared.placing.Scratch.{Scratch}
 
 -- the name that the next abstraction binds
 abbrev pub next_name : ℕ → Place → ℕ
@@ -54,18 +55,16 @@ pub record Holds (f : ℕ) (p : Place) (ns : List Node) (name : ℕ) (st : Spot)
   pub name_is : st.name ≡ name
 
 -- nothing of the term at the place p has been read
-abbrev pub Before : ℕ → Place → Spot → List ℕ → List ℕ → List ℕ → List ℕ → Type 0
-Before f p st ts ms xs ys = Holds f p (nodes_to f p) (next_name f p) st ts ms xs ys
+abbrev pub Before : {N : ℕ} → ℕ → Place → Spot → Scratch N → Type 0
+Before f p st r = Holds f p (nodes_to f p) (next_name f p) st r.tags r.args r.names r.apps
 
 -- the term t at the place p has been read
-abbrev pub After : ℕ → Place → Term → Spot → List ℕ → List ℕ → List ℕ → List ℕ → Type 0
-After f p t st ts ms xs ys = Holds f p (nodes_to f p ++ nodes_of f p t) (next_name f p + binders t) st ts ms xs ys
+abbrev pub After : {N : ℕ} → ℕ → Place → Term → Spot → Scratch N → Type 0
+After f p t st r = Holds f p (nodes_to f p ++ nodes_of f p t) (next_name f p + binders t) st r.tags r.args r.names r.apps
 
--- there is room for one more node in arrays of these lengths, and the numbers are of 16 bits
-pub record Ready (st : Spot) (tags arguments others : ℕ) : Type 0 where
-  pub tag_fits : st.nodes < tags
-  pub argument_fits : st.nodes < arguments
-  pub other_fits : st.nodes < others
+-- there is room for one more node in arrays for so many, and the numbers are of 16 bits
+pub record Ready (st : Spot) (room : ℕ) : Type 0 where
+  pub fits : st.nodes < room
   pub few_nodes : st.nodes < 32768
   pub few_deep : st.depth ≤ st.nodes
   pub few_open : st.pending ≤ st.nodes
@@ -76,9 +75,9 @@ abbrev pub name_of : List ℕ → ℕ → ℕ → ℕ
 name_of xs m k = cond (ltb k m) (get_or xs (m - 1 - k) 0) (k - m)
 
 -- an application is open, and it is one of the nodes
-pub record Closable (st : Spot) (arguments : ℕ) (ys : List ℕ) : Type 0 where
+pub record Closable {N : ℕ} (st : Spot) (r : Scratch N) : Type 0 where
   pub some_open : 1 ≤ st.pending
-  pub within_apps : st.pending ≤ length ys
-  pub application : get_or ys (st.pending - 1) 0 < st.nodes
-  pub within_arguments : st.nodes ≤ arguments
+  pub open_fit : st.pending ≤ N
+  pub application : get_or r.apps (st.pending - 1) 0 < st.nodes
+  pub nodes_fit : st.nodes ≤ N
   pub few_nodes : st.nodes ≤ 32768

@@ -1,54 +1,56 @@
 // A place in the bits: how many bytes have been taken, and of the last of them the bits that are left.
-ghost use Rattle.std.specs.Prelude.{◌≡◌, ◌-◌, ◌≤◌};
-ghost use Rattle.importing.specs.Ahead.{ahead, Sound, bit_of, taken, Bitwise};
+ghost use Rattle.std.specs.Prelude.{◌<◌};
 
 #[derive(Clone, Copy)]
 pub struct Cursor {
     pub at: usize,
     pub byte: u32,
     pub left: u32,
+    // The byte is begun.
+    ghost begun: { left < 8 },
 }
 
-// The next bit, and the cursor behind it; or that there is none.
-#[derive(Clone, Copy)]
-pub enum Bit {
-    End,
-    Zero(Cursor),
-    One(Cursor),
-}
+impl Cursor {
+    ghost use Rattle.std.specs.Prelude.{◌≡◌, ℕ, List};
+    ghost use Rattle.binary.specs.Bits.{bits_in};
+    ghost use Rattle.importing.specs.Ahead.{ahead, taken, Bitwise, Begins};
 
-// The next bit of a byte of which `left` bits are left.
-fn bit_of(at: usize, byte: u32, left: u32) -> Bit
-    requires le_left { 1 ≤ left }
-    requires left_bound { left ≤ 8 }
-    ensures { result ≡ bit_of at byte (left - 1) }
-{
-    let rest = left - 1;
-    let next = Cursor {
-        at,
-        byte,
-        left: rest,
-    };
-    if (byte >> rest) % 2 == 1 {
-        Bit::One(next)
-    } else {
-        Bit::Zero(next)
+    // The cursor before the first bit.
+    pub fn start() -> Cursor
+        ensures { (s : List ℕ) → ahead s result ≡ bits_in s }
+    {
+        Cursor {
+            at: 0,
+            byte: 0,
+            left: 0,
+        }
     }
-}
 
-// The next bit behind a cursor.
-pub fn next_bit(bits: &[u8], c: Cursor) -> Bit
-    requires { Sound c }
-    ensures exact { ahead bits.now c ≡ taken bits.now result }
-    ensures further { Bitwise c result }
-{
-    let at = c.at;
-    let left = c.left;
-    if left != 0 {
-        return bit_of(at, c.byte, left);
+    // The byte that has the next bit, with how many bytes are taken then, and how many bits it has left.
+    fn begin(self, bits: &[u8]) -> Option<(usize, u32, u32)>
+        ensures { Begins bits.now self result }
+    {
+        if self.left != 0 {
+            return Some((self.at, self.byte, self.left));
+        }
+        if self.at >= bits.len() {
+            return None;
+        }
+        Some((self.at + 1, bits[self.at] as u32, 8))
     }
-    if at >= bits.len() {
-        return Bit::End;
+
+    // The next bit, and the cursor behind it; or that there is none.
+    pub fn next(self, bits: &[u8]) -> Option<(bool, Cursor)>
+        ensures exact { ahead bits.now self ≡ taken bits.now result }
+        ensures further { Bitwise self result }
+    {
+        let (at, byte, left) = self.begin(bits)?;
+        let rest = left - 1;
+        let next = Cursor {
+            at,
+            byte,
+            left: rest,
+        };
+        Some(((byte >> rest) % 2 == 1, next))
     }
-    bit_of(at + 1, bits[at] as u32, 8)
 }

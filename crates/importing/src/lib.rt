@@ -1,7 +1,7 @@
 // Import: the file of a term whose bits are given, in binary lambda calculus. `import` takes any
-// bytes, any count of free names and an output of any length, and promises the answer that request
-// 1 of paper 02 gives for them. It takes time linear in the bits and the nodes, and no function
-// calls itself, however deep the term is. Refused are, in this order:
+// bytes, any count of free names and an output of any length, and promises the answer that `imported`
+// in binary/specs/Answer defines for them. It takes time linear in the bits and the nodes, and no
+// function calls itself, however deep the term is. Refused are, in this order:
 //
 //   2 File(Limits)   more than 16,384 free names
 //   14 Ends          the bits end inside a term, or there are none   } whichever comes first in the
@@ -19,91 +19,49 @@ mod scanning;
 mod writing;
 
 ghost use Rattle.std.specs.Prelude.{◌≤◌, length};
-ghost use Rattle.termfile.specs.File.{max_free};
+ghost use Rattle.termfile.specs.File.{max_free, max_nodes};
 ghost use Rattle.binary.specs.Answer.{imported, Converts};
 ghost use Rattle.importing.specs.Scanning.{Roomy};
 
-use binary::{Converted, Refusal};
+use binary::Refusal;
 use padding::is_padding;
-use scanning::{Scanned, scan};
+use placing::Scratch;
+use scanning::scan;
+use termfile::{MAX_FREE, MAX_NODES};
 use writing::write_file;
 
-// The most free names of a term file, and the most nodes.
-const MAX_FREE: usize = 16384;
+// The most nodes for which a small array is taken, and one of middle size. A node takes at least two
+// bits, so that bits of at most SMALL / 4 bytes have at most SMALL nodes. To zero large arrays takes
+// longer than all else that a small term asks for.
+const SMALL: usize = 64;
 
-const MAX_NODES: usize = 16384;
+const MIDDLE: usize = 1024;
 
-// Writes the file, where there is a term and the output has room for it. The arrays are for its own use.
-fn import_in(
-    bits: &[u8],
-    f: usize,
-    tags: &mut [u8],
-    args: &mut [u16],
-    names: &mut [u16],
-    apps: &mut [u16],
-    out: &mut [u8],
-) -> Converted
-    requires f_le_max_free { f ≤ max_free }
-    requires roomy { Roomy (length bits.now) (length tags.old) }
-    requires roomy_2 { Roomy (length bits.now) (length args.old) }
-    requires roomy_3 { Roomy (length bits.now) (length names.old) }
-    requires roomy_4 { Roomy (length bits.now) (length apps.old) }
+// Imports bits of at most N nodes, and of at most as many free names as a file may have. The bound on f
+// stands in three contracts: a type for it would be made here and be taken apart again at each use.
+fn import_with<const N: usize>(bits: &[u8], f: usize, out: &mut [u8]) -> Result<usize, Refusal>
+    requires few_free { f ≤ max_free }
+    requires few_nodes { N ≤ max_nodes }
+    requires roomy { Roomy (length bits.now) N }
     ensures { Converts (imported f bits.now) result out.old out.new }
 {
-    match scan(bits, f, tags, args, names, apps) {
-        Scanned::Cut => Converted::Refused(Refusal::Ends),
-        Scanned::Beyond => Converted::Refused(Refusal::Range),
-        Scanned::Read(n, rest) => {
-            if !is_padding(bits, rest) {
-                return Converted::Refused(Refusal::Padding);
-            }
-            // In 32 bits: no product here is wider than that, except by a power of two (02, request 4).
-            let bytes = (4 + 3 * (n as u32)) as usize;
-            if out.len() < bytes {
-                return Converted::Refused(Refusal::Output);
-            }
-            write_file(out, f, &tags[..n], &args[..n]);
-            Converted::Written(bytes)
-        }
+    let mut scratch = Scratch {
+        tags: [0u8; N],
+        args: [0u16; N],
+        names: [0u16; N],
+        apps: [0u16; N],
+    };
+    let (n, rest) = scan(bits, f, &mut scratch)?;
+    if !is_padding(bits, rest) {
+        return Err(Refusal::Padding);
     }
-}
-
-// The same with arrays of its own, for bits of at most 16 bytes, at most 256, and any. A node takes at
-// least two bits, so that they have at most 64 nodes, 1,024, and as many as a file may have. To zero
-// large arrays takes longer than all else that a small term asks for.
-fn import_small(bits: &[u8], f: usize, out: &mut [u8]) -> Converted
-    requires f_le_max_free { f ≤ max_free }
-    requires bits_len_bound { length bits.now ≤ 16 }
-    ensures { Converts (imported f bits.now) result out.old out.new }
-{
-    let mut tags = [0u8; 64];
-    let mut args = [0u16; 64];
-    let mut names = [0u16; 64];
-    let mut apps = [0u16; 64];
-    import_in(bits, f, &mut tags, &mut args, &mut names, &mut apps, out)
-}
-
-fn import_middle(bits: &[u8], f: usize, out: &mut [u8]) -> Converted
-    requires f_le_max_free { f ≤ max_free }
-    requires bits_len_bound { length bits.now ≤ 256 }
-    ensures { Converts (imported f bits.now) result out.old out.new }
-{
-    let mut tags = [0u8; 1024];
-    let mut args = [0u16; 1024];
-    let mut names = [0u16; 1024];
-    let mut apps = [0u16; 1024];
-    import_in(bits, f, &mut tags, &mut args, &mut names, &mut apps, out)
-}
-
-fn import_large(bits: &[u8], f: usize, out: &mut [u8]) -> Converted
-    requires { f ≤ max_free }
-    ensures { Converts (imported f bits.now) result out.old out.new }
-{
-    let mut tags = [0u8; MAX_NODES];
-    let mut args = [0u16; MAX_NODES];
-    let mut names = [0u16; MAX_NODES];
-    let mut apps = [0u16; MAX_NODES];
-    import_in(bits, f, &mut tags, &mut args, &mut names, &mut apps, out)
+    // In 32 bits: machines without a wide multiply have no product wider than that, but by a power of two.
+    let bytes = (4 + 3 * (n as u32)) as usize;
+    if out.len() < bytes {
+        return Err(Refusal::Output);
+    }
+    write_file(out, f, &scratch.tags[..n], &scratch.args[..n]);
+    Ok(bytes)
 }
 
 // Imports the bits of a term with f free names: writes its file at the front of `out` and answers
@@ -112,17 +70,17 @@ fn import_large(bits: &[u8], f: usize, out: &mut [u8]) -> Converted
 // Ruled out, for instance: a bit behind the term that is not looked at, the output's length looked at
 // before the padding, a node limit off by one, and a file written before its length is known to fit
 // (must-fail/).
-pub fn import(bits: &[u8], f: usize, out: &mut [u8]) -> Converted
+pub fn import(bits: &[u8], f: usize, out: &mut [u8]) -> Result<usize, Refusal>
     ensures { Converts (imported f bits.now) result out.old out.new }
 {
     if f > MAX_FREE {
-        return Converted::Refused(Refusal::File(termfile::Refusal::Limits));
+        return Err(Refusal::File(termfile::Refusal::Limits));
     }
-    if bits.len() <= 16 {
-        return import_small(bits, f, out);
+    if bits.len() <= SMALL / 4 {
+        return import_with::<SMALL>(bits, f, out);
     }
-    if bits.len() <= 256 {
-        return import_middle(bits, f, out);
+    if bits.len() <= MIDDLE / 4 {
+        return import_with::<MIDDLE>(bits, f, out);
     }
-    import_large(bits, f, out)
+    import_with::<MAX_NODES>(bits, f, out)
 }

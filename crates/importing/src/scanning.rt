@@ -1,82 +1,57 @@
 // The one pass over the bits: it checks them, and puts the nodes of the term into arrays.
 ghost use Rattle.std.specs.Prelude.{◌≤◌, length};
-ghost use Rattle.termfile.specs.File.{max_free};
+ghost use Rattle.termfile.specs.File.{max_free, max_nodes};
 ghost use Rattle.importing.specs.Scanning.{Roomy, Scans};
 
 use crate::cursor::Cursor;
 use crate::node::{Node, read_node};
-use crate::placing::{Spot, close_left, put_abstraction, put_application, put_variable};
+use crate::placing::{Scratch, Spot};
+use binary::Refusal;
+use termfile::MAX_NODES;
 
-// How scanning ends: the bits end inside a term; a node is beyond the 16,384th, or an index out of
-// range; or a term of so many nodes was read, with the cursor behind it.
-#[derive(Clone, Copy)]
-pub enum Scanned {
-    Cut,
-    Beyond,
-    Read(usize, Cursor),
-}
-
-const MAX_NODES: usize = 16384;
-
-// Scans the bits. At each turn the nodes up to a place have been put, and what is left to be read
+// Scans the bits: the number of nodes of the term that is read, with the cursor behind it, or the refusal
+// `Ends` or `Range`. At each turn the nodes up to a place have been put, and what is left to be read
 // there is ahead of the cursor.
-pub fn scan(
+pub fn scan<const N: usize>(
     bits: &[u8],
     f: usize,
-    tags: &mut [u8],
-    args: &mut [u16],
-    names: &mut [u16],
-    apps: &mut [u16],
-) -> Scanned
-    requires f_le_max_free { f ≤ max_free }
-    requires roomy { Roomy (length bits.now) (length tags.old) }
-    requires roomy_2 { Roomy (length bits.now) (length args.old) }
-    requires roomy_3 { Roomy (length bits.now) (length names.old) }
-    requires roomy_4 { Roomy (length bits.now) (length apps.old) }
-    ensures { Scans f bits.now tags.new args.new result }
+    scratch: &mut Scratch<N>,
+) -> Result<(usize, Cursor), Refusal>
+    requires few_free { f ≤ max_free }
+    requires few_nodes { N ≤ max_nodes }
+    requires roomy { Roomy (length bits.now) N }
+    ensures { Scans f bits.now scratch.new result }
 {
-    let mut c = Cursor {
-        at: 0,
-        byte: 0,
-        left: 0,
-    };
+    let mut c = Cursor::start();
     let mut spot = Spot {
         nodes: 0,
         depth: 0,
         pending: 0,
         name: f,
     };
-    loop {
-        match read_node(bits, c) {
-            Node::Cut => return Scanned::Cut,
-            Node::Abstraction(next) => {
-                if spot.nodes >= MAX_NODES {
-                    return Scanned::Beyond;
-                }
-                spot = put_abstraction(tags, args, names, spot);
-                c = next;
+    while spot.nodes < MAX_NODES {
+        let (node, next) = read_node(bits, c).ok_or(Refusal::Ends)?;
+        match node {
+            Node::Abstraction => {
+                spot = scratch.put_abstraction(spot);
             }
-            Node::Application(next) => {
-                if spot.nodes >= MAX_NODES {
-                    return Scanned::Beyond;
-                }
-                spot = put_application(tags, args, apps, spot);
-                c = next;
+            Node::Application => {
+                spot = scratch.put_application(spot);
             }
-            Node::Variable(k, next) => {
-                if spot.nodes >= MAX_NODES {
-                    return Scanned::Beyond;
-                }
+            Node::Variable(k) => {
                 if k >= spot.depth + f {
-                    return Scanned::Beyond;
+                    return Err(Refusal::Range);
                 }
-                spot = put_variable(tags, args, names, spot, k);
+                spot = scratch.put_variable(spot, k);
                 if spot.pending == 0 {
-                    return Scanned::Read(spot.nodes, next);
+                    return Ok((spot.nodes, next));
                 }
-                spot = close_left(args, apps, spot);
-                c = next;
+                spot = scratch.close_left(spot);
             }
         }
+        c = next;
     }
+    // A node beyond the last, if the bits do not end before its own end.
+    read_node(bits, c).ok_or(Refusal::Ends)?;
+    Err(Refusal::Range)
 }

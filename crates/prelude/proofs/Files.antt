@@ -7,13 +7,12 @@ use mathlib.Core.Bool.{Bool, true, false, cond, false≢true}
 use mathlib.Core.List.{List, [], ◌∷◌}
 use mathlib.Core.Option.{Option, none, some}
 use native.Mathlib.Omega.{arith}
-use lib.Dec.{leb, eqb}
+use lib.Dec.{leb}
 use lib.ListN.{length, get_or, take, drop, length-drop}
-use lib.Seq.{length-take-le, get_or-take, get_or-drop, drop-drop}
-use borrow.Author.Tests.{le-leb, lt-leb, leb-true, eq-eqb, ne_eqb}
-use Rattle.termfile.specs.File.{word, free_names, node_count}
+use lib.Seq.{take_all, length-take-le, get_or-take, get_or-drop, drop-drop}
+use borrow.Author.Tests.{le-leb, leb-true}
+use Rattle.termfile.specs.File.{word, node_count}
 use Rattle.prelude.specs.Prelude.{definition_count, file_length, prepend, cut, files, are_cut, listed, definition_files}
-use Rattle.prelude.specs.Passes.{Cut}
 
 -- the definition that the bytes begin with
 abbrev pub first : List ℕ → List ℕ
@@ -22,9 +21,6 @@ first s = take (file_length s) s
 module _ (s : List ℕ) (fits : file_length s ≤ length s) where
   pub first_byte : (i : ℕ) → i < file_length s → get_or (first s) i 0 ≡ get_or s i 0
   first_byte i h = get_or-take (file_length s) s i 0 h
-
-  pub first-names : free_names (first s) ≡ free_names s
-  first-names = ap₂ word (first_byte 0 (omega arith)) (first_byte 1 (omega arith))
 
   pub first_count : node_count (first s) ≡ node_count s
   first_count = ap₂ word (first_byte 2 (omega arith)) (first_byte 3 (omega arith))
@@ -36,9 +32,6 @@ module _ (s : List ℕ) (fits : file_length s ≤ length s) where
 -- The tests of the cut
 
 module _ (m : ℕ) (s : List ℕ) where
-  pub cut-missing : length s < file_length s → are_cut (cut (suc m) s) ≡ false
-  cut-missing h = rw (lt-leb (file_length s) (length s) h)
-
   prepend-cut : (o : Option (List (List ℕ))) → are_cut (prepend (first s) o) ≡ are_cut o
   prepend-cut none = refl
   prepend-cut (some ss) = refl
@@ -46,12 +39,12 @@ module _ (m : ℕ) (s : List ℕ) where
   pub cut-next : file_length s ≤ length s → are_cut (cut (suc m) s) ≡ are_cut (cut m (drop (file_length s) s))
   cut-next h = rw (le-leb (file_length s) (length s) h) (prepend-cut (cut m (drop (file_length s) s)))
 
-pub cut-end : (p : List ℕ) (at : ℕ) → at ≤ length p → eqb at (length p) ≡ are_cut (cut 0 (drop at p))
-cut-end p at h = go (drop at p) (length-drop at p)
-  where
-    go : (s : List ℕ) → length s ≡ length p - at → eqb at (length p) ≡ are_cut (cut 0 s)
-    go [] e = eq-eqb at (length p) (omega arith)
-    go (b ∷ s) e = ne_eqb at (length p) (λ q. omega arith)
+-- a turn of a loop that cuts one definition off
+pub cut-turn : (m n l k : ℕ) (s : List ℕ) → m ≡ suc n → l ≡ file_length s → l ≤ length s → length s - l ≤ k
+    → are_cut (cut m s) ≡ are_cut (cut n (take k (drop l s)))
+cut-turn m n l k s e i h g =
+    let fits : file_length s ≤ length s = omega arith in
+    rw (e, cut-next n s fits, ← i, take_all k (drop l s) (omega (arith, length-drop l s)))
 
 pub cut-none : (s : List ℕ) (ss : List (List ℕ)) → cut 0 s ≡ some ss → ss ≡ []
 cut-none [] ss e = cc
@@ -85,7 +78,27 @@ cut-length (suc m) s ss e =
     let step = cut_step m s ss e in
     ap length step.split ∙ ap suc (cut-length m (drop (file_length s) s) step.later step.rest)
 
+-- the definitions that so many bytes are cut into: how many they are, and the first
+pub listed-length : (m : ℕ) (s : List ℕ) → are_cut (cut m s) ≡ true → length (listed (cut m s)) ≡ m
+listed-length m s e = cut-length m s (listed (cut m s)) (cut-listed (cut m s) e)
+
+pub listed-first : (m : ℕ) (s t : List ℕ) (ts : List (List ℕ)) → are_cut (cut m s) ≡ true → listed (cut m s) ≡ t ∷ ts → 4 ≤ length t
+listed-first zero s t ts e i =
+    let none_left = cut-none s (listed (cut 0 s)) (cut-listed (cut 0 s) e) in
+    omega (arith, ap length (sym i ∙ none_left))
+listed-first (suc m) s t ts e i =
+    let step = cut_step m s (t ∷ ts) (cut-listed (cut (suc m) s) e ∙ ap some i) in
+    let split : t ≡ first s = cc (step.split) in
+    rw split (omega (arith, length-take-le (file_length s) s step.fits))
+
 -- A pass over the definitions
+
+-- a prelude whose bytes are its d definitions
+pub record Cut (p : List ℕ) (d : ℕ) : Type 0 where
+  pub long : 2 ≤ length p
+  pub count : d ≡ definition_count p
+  pub few : d < 65536
+  pub whole : are_cut (files p) ≡ true
 
 -- of d definitions those from place k on are ss, and start at byte `at`
 pub record Left (p : List ℕ) (d k at : ℕ) (ss : List (List ℕ)) : Type 0 where

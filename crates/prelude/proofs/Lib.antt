@@ -4,6 +4,7 @@ pub mod Refusals
 pub mod Told
 pub mod Acceptance
 pub mod Totals
+pub mod Adding
 pub mod Numbers
 pub mod Empty
 pub mod Examples

@@ -23,10 +23,3 @@ module _ (f : ℕ) (p : List ℕ) where
 
   pub prelude-accepted : (m : Sums) → accepted m ≡ answer f p → (prelude_refusal f p ≡ none) × (m ≡ sums (definition_files p))
   prelude-accepted m e = answered-accepted (prelude_refusal f p) m (sums (definition_files p)) e
-
-  -- and back
-  pub refused-prelude : (k : ℕ) → prelude_refusal f p ≡ some k → refused k ≡ answer f p
-  refused-prelude k e = rw e
-
-  pub accepted-prelude : (m : Sums) → prelude_refusal f p ≡ none → m ≡ sums (definition_files p) → accepted m ≡ answer f p
-  accepted-prelude m e same = rw (e, same)

@@ -1,11 +1,9 @@
 -- What `check` answers, in the paper's numbers.
-use Rattle.std.specs.Prelude.{ℕ, List}
+use Rattle.std.specs.Prelude.{ℕ, List, Result, Ok, Err}
 use Rattle.std.proofs.Math.Option.{Option, none, some}
 use Rattle.termfile.specs.Answer as termfile
 use Rattle.prelude.specs.Prelude.{definition_files, each_refusal, prelude_refusal, sums}
 use Rattle.prelude.specs.declared.Sums.{Sums}
-use Rattle.prelude.specs.declared.Checked.{Checked}
-use Rattle.prelude.specs.declared.Checked.TheVariants.{Accepted, Refused}
 use Rattle.prelude.specs.declared.Refusal.{Refusal}
 use Rattle.prelude.specs.declared.Refusal.TheVariants.{Cut, Definition, NotAbstraction, Place}
 
@@ -33,6 +31,6 @@ number (Definition r) = termfile.number r
 number NotAbstraction = 18
 number Place = 19
 
-abbrev pub told : Checked → Answer
-told (Refused r) = refused (number r)
-told (Accepted m) = accepted m
+abbrev pub told : Result Sums Refusal → Answer
+told (Err r) = refused (number r)
+told (Ok m) = accepted m

@@ -1,10 +1,8 @@
--- What the check's private functions are held to, beyond the paper's definitions. Letters: p are the bytes of a prelude, d is its count of definitions.
-use Rattle.std.specs.Prelude.{ℕ, ◌≤◌, ◌<◌, ◌≡◌, true, List, length}
-use Rattle.prelude.specs.Prelude.{definition_count, files, are_cut}
+-- What the check's private functions are held to, beyond the paper's definitions.
+use Rattle.std.specs.Prelude.{ℕ, List}
+use Rattle.prelude.specs.Prelude.{cut, listed}
+use Rattle.prelude.specs.declared.cutting.Definitions.{Definitions}
 
--- a prelude whose bytes are its d definitions
-pub record Cut (p : List ℕ) (d : ℕ) : Type 0 where
-  pub long : 2 ≤ length p
-  pub count : d ≡ definition_count p
-  pub few : d < 65536
-  pub whole : are_cut (files p) ≡ true
+-- the definitions that are to come, as files
+abbrev pub files_in : Definitions → List (List ℕ)
+files_in ds = listed (cut ds.count ds.bytes.now)

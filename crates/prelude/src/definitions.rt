@@ -1,45 +1,30 @@
 // Refusals 2 and 4 to 7 of each definition in turn, and the sums over definitions that have none.
 ghost use Rattle.std.specs.Prelude.{◌≡◌};
 ghost use Rattle.prelude.specs.Answer.{answer_of_each, told};
-ghost use Rattle.prelude.specs.Passes.{Cut};
-ghost use Rattle.prelude.specs.Prelude.{definition_files};
+ghost use Rattle.prelude.specs.Passes.{files_in};
 
-use crate::cutting::file_length;
-use crate::{Checked, Refusal, Sums};
+use crate::cutting::Definitions;
+use crate::{Refusal, Sums};
 
 // The first definition's refusal that there is, or the sums of the definitions' counts.
-pub fn check_each(prelude: &[u8], d: usize) -> Checked
-    requires { Cut prelude.now d }
-    ensures { told result ≡ answer_of_each (definition_files prelude.now) }
+pub fn check_each(definitions: Definitions) -> Result<Sums, Refusal>
+    ensures { told result ≡ answer_of_each (files_in definitions.entry) }
 {
-    // The first k definitions end at byte `at`; each is a term file, and the sums are theirs.
-    let mut nodes = 0;
-    let mut abstractions = 0;
-    let mut variables = 0;
-    let mut applications = 0;
-    let mut at = 2;
-    let mut k = 0;
-    while k < d {
-        let start = at;
-        k += 1;
-        at = start + file_length(prelude, start);
-        match termfile::check(&prelude[start..at]) {
-            termfile::Checked::Refused(why) => {
-                return Checked::Refused(Refusal::Definition(why));
-            }
-            termfile::Checked::Accepted(counts) => {
-                nodes += counts.nodes;
-                abstractions += counts.abstractions;
-                variables += counts.variables;
-                applications += counts.applications;
-            }
-        }
+    // The definitions so far are term files, and the sums are theirs.
+    let mut sums = Sums {
+        definitions: 0,
+        nodes: 0,
+        abstractions: 0,
+        variables: 0,
+        applications: 0,
+    };
+    for file in definitions {
+        let counts = termfile::check(file)?;
+        sums.definitions += 1;
+        sums.nodes += counts.nodes;
+        sums.abstractions += counts.abstractions;
+        sums.variables += counts.variables;
+        sums.applications += counts.applications;
     }
-    Checked::Accepted(Sums {
-        definitions: d,
-        nodes,
-        abstractions,
-        variables,
-        applications,
-    })
+    Ok(sums)
 }

@@ -1,7 +1,7 @@
-// The prelude: whether a byte string is one, for a term with a given count of free names. `check` takes
-// any byte string and any count, and promises the answer that request 6 of paper 02 gives for them:
-// the sums over the definitions, or the first refusal that is met. It writes to nothing that is lent
-// to it, and takes time linear in the prelude. Refused are, each line tested over all definitions
+// The prelude: whether a byte string is one, for a term with a given count of free names. A prelude is a
+// 16-bit count of definitions and then as many term files. `check` takes any byte string and any count,
+// and promises the sums over the definitions, or the first refusal that is met. It writes to nothing that
+// is lent to it, and takes time linear in the prelude. Refused are, each line tested over all definitions
 // before the next:
 //
 //   17 Cut                    more definitions than free names, or bytes left over or missing
@@ -16,14 +16,14 @@ mod heads;
 
 ghost use Rattle.std.specs.Prelude.{◌≡◌};
 ghost use Rattle.prelude.specs.Answer.{answer, told, number};
+ghost use Rattle.prelude.specs.declared.Refusal.TheVariants.{Definition};
 
-use cutting::is_cut;
+use cutting::Definitions;
 use definitions::check_each;
 use heads::{all_abstractions, all_in_place};
-use termfile::word;
 
 // Why a byte string is not a prelude, in the order in which the tests are made.
-#[derive(Clone, Copy)]
+#[derive(Clone, Copy, Debug, PartialEq, Eq)]
 pub enum Refusal {
     Cut,
     Definition(termfile::Refusal),
@@ -32,7 +32,7 @@ pub enum Refusal {
 }
 
 // What is told of an accepted prelude: how many definitions it has, and the sums of their counts.
-#[derive(Clone, Copy)]
+#[derive(Clone, Copy, Debug, PartialEq, Eq)]
 pub struct Sums {
     pub definitions: usize,
     pub nodes: usize,
@@ -41,22 +41,25 @@ pub struct Sums {
     pub applications: usize,
 }
 
-// What `check` answers.
-#[derive(Clone, Copy)]
-pub enum Checked {
-    Accepted(Sums),
-    Refused(Refusal),
+impl Refusal {
+    // The number of a refusal; a definition's has its own.
+    pub fn number(self) -> u64
+        ensures { result ≡ number self }
+    {
+        match self {
+            Refusal::Cut => 17,
+            Refusal::Definition(why) => why.number(),
+            Refusal::NotAbstraction => 18,
+            Refusal::Place => 19,
+        }
+    }
 }
 
-// The number that the papers give a refusal.
-pub fn number(why: Refusal) -> u64
-    ensures { result ≡ number why }
-{
-    match why {
-        Refusal::Cut => 17,
-        Refusal::Definition(file) => termfile::number(file),
-        Refusal::NotAbstraction => 18,
-        Refusal::Place => 19,
+impl From<termfile::Refusal> for Refusal {
+    ghost from_gives = { λ why e. e ≡ Definition why };
+
+    fn from(file: termfile::Refusal) -> Refusal {
+        Refusal::Definition(file)
     }
 }
 
@@ -67,28 +70,18 @@ pub fn number(why: Refusal) -> u64
 // Ruled out, for instance: more definitions than the term has free names, a definition that may use
 // its own name, and 19 for a prelude in which a later definition is not an abstraction, which is 18
 // (must-fail/).
-pub fn check(prelude: &[u8], free: usize) -> Checked
+pub fn check(prelude: &[u8], free: usize) -> Result<Sums, Refusal>
     ensures { told result ≡ answer free prelude.now }
 {
-    if prelude.len() < 2 {
-        return Checked::Refused(Refusal::Cut);
-    }
-    let d = word(prelude[0], prelude[1]);
-    if free < d {
-        return Checked::Refused(Refusal::Cut);
-    }
-    if !is_cut(prelude, d) {
-        return Checked::Refused(Refusal::Cut);
-    }
-    let checked = check_each(prelude, d);
-    let Checked::Accepted(sums) = checked else {
-        return checked;
+    let Some(definitions) = Definitions::of(prelude, free) else {
+        return Err(Refusal::Cut);
     };
-    if !all_abstractions(prelude, d) {
-        return Checked::Refused(Refusal::NotAbstraction);
+    let sums = check_each(definitions)?;
+    if !all_abstractions(definitions) {
+        return Err(Refusal::NotAbstraction);
     }
-    if !all_in_place(prelude, d) {
-        return Checked::Refused(Refusal::Place);
+    if !all_in_place(definitions) {
+        return Err(Refusal::Place);
     }
-    Checked::Accepted(sums)
+    Ok(sums)
 }

@@ -6,7 +6,7 @@ use mathlib.Core.Path.{◌≡◌, refl, ap, ◌∙◌, subst}
 use mathlib.Core.Bool.{Bool, true, false, cond}
 use mathlib.Core.List.{List, [], ◌∷◌, ◌++◌}
 use native.Mathlib.Omega.{arith}
-use native.Mathlib.Nat.{div-lt_iff_lt-mul, pow-suc}
+use native.Mathlib.Nat.{div-lt_iff_lt-mul, one-le-pow, pow-suc}
 use lib.Dec.{ltb, lit<}
 use lib.ListN.{length, length-append}
 use borrow.Author.Tests.{lt-ltb, le-ltb, ltb-true, ltb-false}
@@ -64,17 +64,40 @@ decimal-length-below n l = ap length (decimal-below n l)
 pub decimal-length-above : (n : ℕ) → 10 ≤ n → length (decimal n) ≡ length (decimal (n / 10)) + 1
 decimal-length-above n l = ap length (decimal-above n l) ∙ length-append (decimal (n / 10)) (digit (n % 10) ∷ [])
 
--- four digits at once
-pub decimal-length-four : (n : ℕ) → 10000 ≤ n → length (decimal n) ≡ length (decimal (n / 10000)) + 4
-decimal-length-four n l =
-    let e : n / 10 / 10 / 10 / 10 ≡ n / 10000 = omega arith in
+-- a number has a digit at least, and one alone below 10
+pub decimal-nonempty : (n : ℕ) → 1 ≤ length (decimal n)
+decimal-nonempty =
+    by_digits (λ n. 1 ≤ length (decimal n))
+    (λ n l. omega (arith, decimal-length-below n l))
+    (λ n l known. omega (arith, decimal-length-above n l))
+
+pub decimal-many : (n : ℕ) → 1 < length (decimal n) → 10 ≤ n
+decimal-many n l = many (ltb n 10) refl
+  where
+    many : (b : Bool) → ltb n 10 ≡ b → 10 ≤ n
+    many true e = absurd (omega (arith, decimal-length-below n (omega (arith, ltb-true n 10 e))))
+    many false e = omega (arith, ltb-false n 10 e)
+
+pub decimal-one : (n : ℕ) → length (decimal n) ≤ 1 → n < 10
+decimal-one n l = one (ltb n 10) refl
+  where
+    one : (b : Bool) → ltb n 10 ≡ b → n < 10
+    one true e = omega (arith, ltb-true n 10 e)
+    one false e =
+        let more : 10 ≤ n = omega (arith, ltb-false n 10 e) in
+        absurd (omega (arith, decimal-length-above n more, decimal-nonempty (n / 10)))
+
+-- a number has one digit more than the power of 10 that it reaches
+pub decimal-length-power : (k n : ℕ) → 10 ^ k ≤ n → n < 10 * 10 ^ k → length (decimal n) ≡ k + 1
+decimal-length-power zero n low high = omega (arith, decimal-length-below n (omega arith))
+decimal-length-power (suc k) n low high =
+    let power : 10 ^ suc k ≡ 10 ^ k * 10 = pow-suc 10 k in
+    let some : 1 ≤ 10 ^ k = one-le-pow k 10 (lit< tt) in
     omega (
       arith,
-      decimal-length-above n (omega arith),
-      decimal-length-above (n / 10) (omega arith),
-      decimal-length-above (n / 10 / 10) (omega arith),
-      decimal-length-above (n / 10 / 10 / 10) (omega arith),
-      ap (λ m. length (decimal m)) e,
+      power,
+      decimal-length-above n (omega (arith, power, some)),
+      decimal-length-power k (n / 10) (omega (arith, power)) (omega (arith, power)),
     )
 
 -- a number below 10 ^ (k + 1) has at most k + 1 digits

@@ -5,14 +5,15 @@ use mathlib.Core.Path.{◌≡◌, refl, ap, ◌∙◌}
 use mathlib.Core.List.{List}
 use native.Mathlib.Omega.{arith}
 use lib.ListN.{length}
+use Rattle.std.proofs.Common.{Ok, Err}
 use Rattle.termfile.specs.Output.{overlay}
 use Rattle.machine.specs.Answer.{nodes_written, Report, Answer, report}
 use Rattle.rendering.specs.Lines.{lines}
 use Rattle.rendering.specs.Promise.{nodes_at, nodes_in, Tellable, longest_text, Renders}
-use Rattle.rendering.specs.declared.Rendered.TheVariants.{Written, TooShort, NoAnswer}
+use Rattle.rendering.specs.declared.Unrendered.TheVariants.{TooShort, NoAnswer}
 
 -- no call gives the answer
-pub renders-none : {a : Answer} {ts ms l : List ℕ} → (Tellable a ts ms → ⊥) → Renders a ts ms NoAnswer l l
+pub renders-none : {a : Answer} {ts ms l : List ℕ} → (Tellable a ts ms → ⊥) → Renders a ts ms (Err NoAnswer) l l
 renders-none not =
     record {
       written = λ t h. absurd (not t);
@@ -26,7 +27,7 @@ renders-none not =
 
 -- the array is too short
 pub renders-short : {a : Answer} {ts ms l : List ℕ} → Tellable a ts ms → length l < length (lines a (nodes_in a ts ms))
-    → length (lines a (nodes_in a ts ms)) ≤ longest_text → Renders a ts ms TooShort l l
+    → length (lines a (nodes_in a ts ms)) ≤ longest_text → Renders a ts ms (Err TooShort) l l
 renders-short given short few =
     record {
       written = λ t h. absurd (omega arith);
@@ -40,10 +41,10 @@ renders-short given short few =
 
 -- the text is written
 pub renders-written : {a : Answer} {ts ms l l' : List ℕ} {n : ℕ} → Tellable a ts ms → n ≡ length (lines a (nodes_in a ts ms)) → n ≤ length l
-    → l' ≡ overlay (lines a (nodes_in a ts ms)) l → Renders a ts ms (Written n) l l'
+    → l' ≡ overlay (lines a (nodes_in a ts ms)) l → Renders a ts ms (Ok n) l l'
 renders-written given count room is =
     record {
-      written = λ t h. ap Written count;
+      written = λ t h. ap Ok count;
       text = λ t h. is;
       short = λ t h. absurd (omega arith);
       short_kept = λ t h. absurd (omega arith);

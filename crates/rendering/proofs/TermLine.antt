@@ -1,26 +1,24 @@
--- The nodes of a term line, one after the other: the text of those from i on is the node at i and the text of those behind it.
+-- The nodes of a term line: where they end, and how long they are.
 -- Letters: ts are tags, ms arguments.
 -- Assumes nothing.
-use Prim.Native.Nat.{ℕ, zero, suc, ◌+◌, ◌<◌}
-use mathlib.Core.Path.{◌≡◌, refl}
-use mathlib.Core.List.{List, [], ◌∷◌, ◌++◌, map}
+use Prim.Native.Nat.{ℕ, ◌+◌, ◌<◌}
+use mathlib.Core.Path.{◌≡◌, refl, ap}
+use mathlib.Core.List.{List, [], ◌∷◌, map}
 use native.Mathlib.Omega.{arith}
 use native.Mathlib.Numerals.{add-one}
 use lib.ListN.{length, get_or, drop, length-append}
+use Rattle.std.proofs.Common.{◌⊎◌, inl, inr}
 use lib.Seq.{drop-cons}
 use Rattle.termfile.specs.File.{pairs}
 use Rattle.rendering.specs.Decimal.{decimal}
-use Rattle.rendering.specs.Lines.{ascii, line, letter, node_word}
+use Rattle.rendering.specs.Lines.{ascii, line, node_word}
 use Rattle.rendering.specs.Putting.{nodes_text, nodes_bytes}
 
-pub letter-other : (t : ℕ) → (t ≡ 0 → ⊥) → (t ≡ 1 → ⊥) → letter t ≡ 97
-letter-other zero h k = absurd (h refl)
-letter-other (suc zero) h k = absurd (k refl)
-letter-other (suc (suc t)) h k = refl
-
-pub nodes-next : (ts ms : List ℕ) (i : ℕ) → i < length ts → i < length ms
-    → nodes_text (drop i ts) (drop i ms) ≡ (32 ∷ letter (get_or ts i 0) ∷ decimal (get_or ms i 0)) ++ nodes_text (drop (i + 1) ts) (drop (i + 1) ms)
-nodes-next ts ms i h k = rw (add-one, drop-cons ts i 0 h, drop-cons ms i 0 k)
+-- no nodes are to come where either list is at its end
+pub nodes-none : (ts ms : List ℕ) → length ts ≡ length ms → (ts ≡ []) ⊎ (ms ≡ []) → nodes_text ts ms ≡ []
+nodes-none [] ms e h = refl
+nodes-none (t ∷ ts) ms e (inl h) = let z : ◌≡◌ {A = ℕ} 0 1 = cc in absurd (omega arith)
+nodes-none (t ∷ ts) ms e (inr h) = absurd (omega (arith, ap length h))
 
 pub bytes_next : (ms : List ℕ) (i : ℕ) → i < length ms
     → nodes_bytes (drop i ms) ≡ 2 + length (decimal (get_or ms i 0)) + nodes_bytes (drop (i + 1) ms)

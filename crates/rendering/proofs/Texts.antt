@@ -38,9 +38,6 @@ counts-pieces r k e = rw e
 abbrev pub digits : ℕ → ℕ
 digits n = length (decimal n)
 
-pub refused-length : (k : ℕ) → length (count_line (ascii "refused") k) ≡ 9 + digits k
-refused-length k = simp length-append (omega arith)
-
 pub counts-length : (r : Report) (k : ℕ) → k ≡ shift_sum r
     → length (count_lines r)
     ≡ 52 + (digits r.beta + digits r.subst + digits r.enter + digits r.leave_fun + digits r.leave_inert)

@@ -14,43 +14,21 @@ mod words;
 ghost use Rattle.std.specs.Prelude.{◌≡◌, List, ℕ};
 ghost use Rattle.machine.specs.Answer.{nodes_written, number_alone, report as reported};
 ghost use Rattle.evaluator.specs.Calling.{told, told_outcome, told_report};
-ghost use Rattle.rendering.specs.Lines.{shift_sum};
 ghost use Rattle.rendering.specs.Promise.{Renders};
-ghost use Rattle.rendering.specs.Putting.{SumFor};
 
-use digits::width;
 use evaluator::{Answer, Outcome, Report};
-use report::{put_report, report_bytes};
-use words::put_count;
+use report::{Summed, put_report, refused_bytes, report_bytes};
+use words::Text;
 
-// What rendering returns: so many bytes are written; the array is too short for the text; or no call gives
-// the answer.
-#[derive(Clone, Copy)]
-pub enum Rendered {
-    Written(usize),
+// Why nothing is written: the array is too short for the text, or no call gives the answer.
+#[derive(Clone, Copy, Debug, PartialEq, Eq)]
+pub enum Unrendered {
     TooShort,
     NoAnswer,
 }
 
-// The sum of the shifting steps, or that it needs more than 64 bits.
-#[derive(Clone, Copy)]
-enum Shifts {
-    Sum(u64),
-    TooMany,
-}
-
-fn shifts_of(r: Report) -> Shifts
-    ensures { SumFor result (shift_sum (told_report r)) }
-{
-    if r.leave_fun > u64::MAX - r.leave_inert {
-        return Shifts::TooMany;
-    }
-    let leaves = r.leave_fun + r.leave_inert;
-    if r.enter > u64::MAX - leaves {
-        return Shifts::TooMany;
-    }
-    Shifts::Sum(r.enter + leaves)
-}
+// The most nodes that an answer has.
+const MOST_NODES: usize = 16384;
 
 // The nodes written, or 0.
 fn nodes_written(outcome: Outcome) -> usize
@@ -58,59 +36,55 @@ fn nodes_written(outcome: Outcome) -> usize
 {
     match outcome {
         Outcome::Normal(n) => n,
-        Outcome::Spent => 0,
-        Outcome::Refused(_) => 0,
+        Outcome::Spent | Outcome::Refused(_) => 0,
     }
 }
 
 // Renders the number of a refused file or prelude.
-fn render_number(k: u64, out: &mut [u8]) -> Rendered
+fn render_number(k: u64, out: &mut [u8]) -> Result<usize, Unrendered>
     ensures { (ts ms : List ℕ) → Renders (number_alone k) ts ms result out.old out.new }
 {
-    let bytes = 9 + width(k);
+    let bytes = refused_bytes(k);
     if out.len() < bytes {
-        return Rendered::TooShort;
+        return Err(Unrendered::TooShort);
     }
-    put_count(out, 0, b"refused", k);
-    Rendered::Written(bytes)
+    Text::new(out).put_count(b"refused", k);
+    Ok(bytes)
 }
 
 // Renders the report of a run.
-fn render_report(r: Report, tags: &[u8], args: &[u16], out: &mut [u8]) -> Rendered
+fn render_report(r: Report, tags: &[u8], args: &[u16], out: &mut [u8]) -> Result<usize, Unrendered>
     ensures { Renders (reported (told_report r)) tags.now args.now result out.old out.new }
 {
-    let Shifts::Sum(shifts) = shifts_of(r) else {
-        return Rendered::NoAnswer;
-    };
-    let outcome = r.outcome;
-    let n = nodes_written(outcome);
-    if n > 16384 {
-        return Rendered::NoAnswer;
+    let n = nodes_written(r.outcome);
+    if n > MOST_NODES.min(tags.len()).min(args.len()) {
+        return Err(Unrendered::NoAnswer);
     }
-    if n > tags.len() {
-        return Rendered::NoAnswer;
-    }
-    if n > args.len() {
-        return Rendered::NoAnswer;
-    }
-    let bytes = report_bytes(r, shifts, &args[..n]);
+    let summed = Summed::of(r).ok_or(Unrendered::NoAnswer)?;
+    let (tags, args) = (&tags[..n], &args[..n]);
+    let bytes = report_bytes(summed, args);
     if out.len() < bytes {
-        return Rendered::TooShort;
+        return Err(Unrendered::TooShort);
     }
-    put_report(out, r, shifts, &tags[..n], &args[..n]);
-    Rendered::Written(bytes)
+    put_report(&mut Text::new(out), summed, tags, args);
+    Ok(bytes)
 }
 
 // Renders an answer of the evaluator into `out`. The written nodes stand at the front of `tags` and `args`, the
 // output arrays of the call. Wrong answers that the contract rules out, each tried in must-fail/: a text in
 // an array that is one byte too short, leave-inert where leave-fun belongs, and the letter of an abstraction
 // for an application.
-pub fn render(answer: Answer, tags: &[u8], args: &[u16], out: &mut [u8]) -> Rendered
+pub fn render(
+    answer: Answer,
+    tags: &[u8],
+    args: &[u16],
+    out: &mut [u8],
+) -> Result<usize, Unrendered>
     ensures { Renders (told answer) tags.now args.now result out.old out.new }
 {
     match answer {
-        Answer::FileRefused(why) => render_number(termfile::number(why), out),
-        Answer::PreludeRefused(why) => render_number(prelude::number(why), out),
+        Answer::FileRefused(why) => render_number(why.number(), out),
+        Answer::PreludeRefused(why) => render_number(why.number(), out),
         Answer::Ran(report) => render_report(report, tags, args, out),
     }
 }

@@ -5,13 +5,14 @@ ghost use Rattle.rendering.specs.Decimal.{decimal};
 ghost use Rattle.rendering.specs.Lines.{letter};
 ghost use Rattle.rendering.specs.Putting.{Room, Put, nodes_text, nodes_bytes};
 
-use crate::digits::{put_decimal, width};
-use crate::words::put_byte;
+use crate::digits::width;
+use crate::words::Text;
 
 // The letter of a tag.
 fn letter_of(tag: u8) -> u8
     ensures { result ≡ letter tag }
 {
+    // By its number: a tag is a byte of the output, and no enum.
     match tag {
         0 => b'v',
         1 => b'l',
@@ -20,43 +21,35 @@ fn letter_of(tag: u8) -> u8
 }
 
 // Puts a space and a node.
-fn put_node(out: &mut [u8], at: usize, tag: u8, argument: u16) -> usize
-    requires { Room (32 ∷ letter tag ∷ decimal argument) at out.old }
-    ensures { Put (32 ∷ letter tag ∷ decimal argument) at out.old result out.new }
+fn put_node(text: &mut Text, tag: u8, argument: u16)
+    requires { Room (32 ∷ letter tag ∷ decimal argument) text.old }
+    ensures { Put (32 ∷ letter tag ∷ decimal argument) text.old text.new }
 {
-    let word = put_byte(out, at, b' ');
-    let next = put_byte(out, word, letter_of(tag));
-    put_decimal(out, next, argument as u64)
+    text.put_byte(b' ');
+    text.put_byte(letter_of(tag));
+    text.put_decimal(u64::from(argument));
 }
 
-// Puts nodes, each with a space before it. At each turn those from i on are still to be put.
-pub fn put_nodes(out: &mut [u8], start: usize, tags: &[u8], args: &[u16]) -> usize
+// Puts nodes, each with a space before it.
+pub fn put_nodes(text: &mut Text, tags: &[u8], args: &[u16])
     requires tags_len { length tags.now ≡ length args.now }
-    requires room { Room (nodes_text tags.now args.now) start out.old }
-    ensures { Put (nodes_text tags.now args.now) start out.old result out.new }
+    requires room { Room (nodes_text tags.now args.now) text.old }
+    ensures { Put (nodes_text tags.now args.now) text.old text.new }
 {
-    let mut at = start;
-    let mut i = 0;
-    while i < tags.len() {
-        let tag = tags[i];
-        let argument = args[i];
-        at = put_node(out, at, tag, argument);
-        i += 1;
+    for (tag, argument) in tags.iter().zip(args) {
+        put_node(text, *tag, *argument);
     }
-    at
 }
 
-// How many bytes nodes with these arguments take. At each turn those before i are counted.
+// How many bytes nodes with these arguments take.
 pub fn nodes_bytes(args: &[u16]) -> usize
     requires { length args.now ≤ output_limit }
     ensures exact { result ≡ nodes_bytes args.now }
     ensures few { result ≤ 7 * output_limit }
 {
-    let mut bytes: usize = 0;
-    let mut i = 0;
-    while i < args.len() {
-        bytes += 2 + width(args[i] as u64);
-        i += 1;
+    let mut bytes = 0;
+    for argument in args {
+        bytes += 2 + width(u64::from(*argument));
     }
     bytes
 }

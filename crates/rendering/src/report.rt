@@ -1,17 +1,43 @@
 // The lines of a report: how long they are, and putting them.
-ghost use Rattle.std.specs.Prelude.{◌≡◌, List, ℕ, ◌≤◌, length};
+ghost use Rattle.std.specs.Prelude.{◌≡◌, List, ℕ, ◌^◌, ◌≤◌, ◌<◌, length, MatchOption};
 ghost use Rattle.termfile.specs.File.{pairs};
-ghost use Rattle.termfile.specs.Output.{overlay};
 ghost use Rattle.machine.specs.Answer.{output_limit, report as reported};
 ghost use Rattle.evaluator.specs.Calling.{told_outcome, told_report};
-ghost use Rattle.rendering.specs.Lines.{outcome_line, shift_sum, count_lines, term_line, lines};
+ghost use Rattle.rendering.specs.Lines.{outcome_line, refused_line, shift_sum, count_lines, term_line, lines};
 ghost use Rattle.rendering.specs.Promise.{longest_text};
 ghost use Rattle.rendering.specs.Putting.{Room, Put};
 
 use crate::digits::width;
 use crate::nodes::{nodes_bytes, put_nodes};
-use crate::words::{put_allowed, put_byte, put_bytes, put_count, put_leave, put_store};
+use crate::words::Text;
 use evaluator::{Outcome, Report};
+
+// A report, and the sum of its shifting steps.
+#[derive(Clone, Copy)]
+pub struct Summed {
+    report: Report,
+    shifts: u64,
+    ghost sum_is: { shifts ≡ shift_sum (told_report report) },
+}
+
+impl Summed {
+    // A report with its sum, or nothing where the sum needs more than 64 bits.
+    pub fn of(report: Report) -> Option<Summed>
+        ensures { MatchOption result (2 ^ 64 ≤ shift_sum (told_report report)) (λ s. (s.report ≡ report) × (shift_sum (told_report report) < 2 ^ 64)) }
+    {
+        let leaves = report.leave_fun.checked_add(report.leave_inert)?;
+        let shifts = report.enter.checked_add(leaves)?;
+        Some(Summed { report, shifts })
+    }
+}
+
+// How long the line of a refusal is.
+pub fn refused_bytes(k: u64) -> usize
+    ensures exact { result ≡ length (refused_line k) }
+    ensures few { result ≤ 29 }
+{
+    b"refused \n".len() + width(k)
+}
 
 // How long the first line is.
 fn outcome_bytes(outcome: Outcome) -> usize
@@ -19,26 +45,27 @@ fn outcome_bytes(outcome: Outcome) -> usize
     ensures few { result ≤ 29 }
 {
     match outcome {
-        Outcome::Normal(_) => 7,
-        Outcome::Spent => 6,
-        Outcome::Refused(why) => 9 + width(evaluator::number(why)),
+        Outcome::Normal(_) => b"normal\n".len(),
+        Outcome::Spent => b"spent\n".len(),
+        Outcome::Refused(why) => refused_bytes(why.number()),
     }
 }
 
-// How long the lines of the counts are: 52 bytes beside the numbers. `shifts` is the sum of the shifting steps.
-fn counts_bytes(r: Report, shifts: u64) -> usize
-    requires { shifts ≡ shift_sum (told_report r) }
-    ensures exact { result ≡ length (count_lines (told_report r)) }
+// How long the lines of the counts are.
+fn counts_bytes(s: Summed) -> usize
+    ensures exact { result ≡ length (count_lines (told_report s.report)) }
     ensures few { result ≤ 272 }
 {
+    let r = s.report;
+    let words = b"beta \nsubst  of \nenter \nleave  \nshift  of \nstore   \n".len();
     let steps = width(r.beta)
         + width(r.subst)
         + width(r.enter)
         + width(r.leave_fun)
         + width(r.leave_inert);
-    let allowed = width(r.subst_allowance) + width(shifts) + width(r.shift_allowance);
+    let allowed = width(r.subst_allowance) + width(s.shifts) + width(r.shift_allowance);
     let taken = width(r.nodes) + width(r.cells) + width(r.names);
-    52 + steps + allowed + taken
+    words + steps + allowed + taken
 }
 
 // How long the term line is, where there is one, whatever the nodes' tags are.
@@ -48,75 +75,68 @@ fn term_bytes(outcome: Outcome, args: &[u16]) -> usize
     ensures few { result ≤ 114693 }
 {
     match outcome {
-        Outcome::Normal(_) => 5 + nodes_bytes(args),
-        Outcome::Spent => 0,
-        Outcome::Refused(_) => 0,
+        Outcome::Normal(_) => b"term\n".len() + nodes_bytes(args),
+        Outcome::Spent | Outcome::Refused(_) => 0,
     }
 }
 
 // How long all lines of a report are.
-pub fn report_bytes(r: Report, shifts: u64, args: &[u16]) -> usize
-    requires shifts_value { shifts ≡ shift_sum (told_report r) }
-    requires args_len_bound { length args.now ≤ output_limit }
-    ensures exact { (tags : List ℕ) → length tags ≡ length args.now → result ≡ length (lines (reported (told_report r)) (pairs tags args.now)) }
+pub fn report_bytes(s: Summed, args: &[u16]) -> usize
+    requires { length args.now ≤ output_limit }
+    ensures exact { (tags : List ℕ) → length tags ≡ length args.now → result ≡ length (lines (reported (told_report s.report)) (pairs tags args.now)) }
     ensures few { result ≤ longest_text }
 {
-    let outcome = r.outcome;
-    outcome_bytes(outcome) + counts_bytes(r, shifts) + term_bytes(outcome, args)
+    let outcome = s.report.outcome;
+    outcome_bytes(outcome) + counts_bytes(s) + term_bytes(outcome, args)
 }
 
 // Puts the first line.
-fn put_outcome(out: &mut [u8], at: usize, outcome: Outcome) -> usize
-    requires { Room (outcome_line (told_outcome outcome)) at out.old }
-    ensures { Put (outcome_line (told_outcome outcome)) at out.old result out.new }
+fn put_outcome(text: &mut Text, outcome: Outcome)
+    requires { Room (outcome_line (told_outcome outcome)) text.old }
+    ensures { Put (outcome_line (told_outcome outcome)) text.old text.new }
 {
     match outcome {
-        Outcome::Normal(_) => put_bytes(out, at, b"normal\n"),
-        Outcome::Spent => put_bytes(out, at, b"spent\n"),
-        Outcome::Refused(why) => put_count(out, at, b"refused", evaluator::number(why)),
+        Outcome::Normal(_) => text.put_bytes(b"normal\n"),
+        Outcome::Spent => text.put_bytes(b"spent\n"),
+        Outcome::Refused(why) => text.put_count(b"refused", why.number()),
     }
 }
 
 // Puts the lines of the counts.
-fn put_counts(out: &mut [u8], at: usize, r: Report, shifts: u64) -> usize
-    requires shifts_value { shifts ≡ shift_sum (told_report r) }
-    requires room { Room (count_lines (told_report r)) at out.old }
-    ensures { Put (count_lines (told_report r)) at out.old result out.new }
+fn put_counts(text: &mut Text, s: Summed)
+    requires { Room (count_lines (told_report s.report)) text.old }
+    ensures { Put (count_lines (told_report s.report)) text.old text.new }
 {
-    let subst = put_count(out, at, b"beta", r.beta);
-    let enter = put_allowed(out, subst, b"subst", r.subst, r.subst_allowance);
-    let leave = put_count(out, enter, b"enter", r.enter);
-    let shift = put_leave(out, leave, r.leave_fun, r.leave_inert);
-    let store = put_allowed(out, shift, b"shift", shifts, r.shift_allowance);
-    put_store(out, store, r.nodes, r.cells, r.names)
+    let r = s.report;
+    text.put_count(b"beta", r.beta);
+    text.put_allowed(b"subst", r.subst, r.subst_allowance);
+    text.put_count(b"enter", r.enter);
+    text.put_leave(r.leave_fun, r.leave_inert);
+    text.put_allowed(b"shift", s.shifts, r.shift_allowance);
+    text.put_store(r.nodes, r.cells, r.names);
 }
 
 // Puts the term line, where there is one.
-fn put_term(out: &mut [u8], at: usize, outcome: Outcome, tags: &[u8], args: &[u16]) -> usize
+fn put_term(text: &mut Text, outcome: Outcome, tags: &[u8], args: &[u16])
     requires tags_len { length tags.now ≡ length args.now }
-    requires room { Room (term_line (told_outcome outcome) (pairs tags.now args.now)) at out.old }
-    ensures { Put (term_line (told_outcome outcome) (pairs tags.now args.now)) at out.old result out.new }
+    requires room { Room (term_line (told_outcome outcome) (pairs tags.now args.now)) text.old }
+    ensures { Put (term_line (told_outcome outcome) (pairs tags.now args.now)) text.old text.new }
 {
-    match outcome {
-        Outcome::Normal(_) => {
-            let nodes = put_bytes(out, at, b"term");
-            let end = put_nodes(out, nodes, tags, args);
-            put_byte(out, end, b'\n')
-        }
-        Outcome::Spent => at,
-        Outcome::Refused(_) => at,
+    if let Outcome::Normal(_) = outcome {
+        text.put_bytes(b"term");
+        put_nodes(text, tags, args);
+        text.put_byte(b'\n');
     }
 }
 
-// Puts all lines of a report at the front.
-pub fn put_report(out: &mut [u8], r: Report, shifts: u64, tags: &[u8], args: &[u16])
-    requires shifts_value { shifts ≡ shift_sum (told_report r) }
+// Puts all lines of a report.
+pub fn put_report(text: &mut Text, s: Summed, tags: &[u8], args: &[u16])
     requires tags_len { length tags.now ≡ length args.now }
-    requires args_in_bounds { length (lines (reported (told_report r)) (pairs tags.now args.now)) ≤ length out.old }
-    ensures { out.new ≡ overlay (lines (reported (told_report r)) (pairs tags.now args.now)) out.old }
+    requires room { Room (lines (reported (told_report s.report)) (pairs tags.now args.now)) text.old }
+    ensures { Put (lines (reported (told_report s.report)) (pairs tags.now args.now)) text.old text.new }
 {
-    let outcome = r.outcome;
-    let counts = put_outcome(out, 0, outcome);
-    let term = put_counts(out, counts, r, shifts);
-    put_term(out, term, outcome, tags, args);
+    let outcome = s.report.outcome;
+    put_outcome(text, outcome);
+    put_counts(text, s);
+    put_term(text, outcome, tags, args);
 }

@@ -1,87 +1,114 @@
 // Words and lines.
-ghost use Rattle.std.specs.Prelude.{[], ◌∷◌, ◌++◌};
+ghost use Rattle.std.specs.Prelude.{◌≡◌, [], ◌∷◌, ◌++◌};
 ghost use Rattle.rendering.specs.Decimal.{decimal};
 ghost use Rattle.rendering.specs.Lines.{count_line, allowed_line, leave_line, store_line};
 ghost use Rattle.rendering.specs.Putting.{Room, Put};
 
-use crate::digits::put_decimal;
+use crate::digits::{fill_decimal, width};
 
-// Puts bytes. At each turn the first i of them are put.
-pub fn put_bytes(out: &mut [u8], at: usize, bytes: &[u8]) -> usize
-    requires { Room bytes.now at out.old }
-    ensures { Put bytes.now at out.old result out.new }
-{
-    let mut i = 0;
-    while i < bytes.len() {
-        out[at + i] = bytes[i];
-        i += 1;
+// A text at the front of an array that is lent, of which so many bytes are written.
+#[derive(Drop)]
+pub struct Text<'a> {
+    out: &'a mut [u8],
+    len: usize,
+}
+
+impl<'a> Text<'a> {
+    // A text of no bytes.
+    pub fn new(out: &'a mut [u8]) -> Text<'a>
+        ensures same_array { result.out.ghost_name ≡ out.entry.ghost_name }
+        ensures as_it_was { result.out.now ≡ out.old }
+        ensures empty { result.len ≡ 0 }
+    {
+        Text { out, len: 0 }
     }
-    at + i
 }
 
-// Puts one byte.
-pub fn put_byte(out: &mut [u8], at: usize, byte: u8) -> usize
-    requires { Room (byte ∷ []) at out.old }
-    ensures { Put (byte ∷ []) at out.old result out.new }
-{
-    out[at] = byte;
-    at + 1
-}
+impl Text<'_> {
+    // Puts bytes.
+    pub fn put_bytes(&mut self, bytes: &[u8])
+        requires { Room bytes.now self.old }
+        ensures { Put bytes.now self.old self.new }
+    {
+        let end = self.len + bytes.len();
+        self.out[self.len..end].copy_from_slice(bytes);
+        self.len = end;
+    }
 
-// Puts a space and a number.
-fn put_number(out: &mut [u8], at: usize, n: u64) -> usize
-    requires { Room (32 ∷ decimal n) at out.old }
-    ensures { Put (32 ∷ decimal n) at out.old result out.new }
-{
-    let next = put_byte(out, at, b' ');
-    put_decimal(out, next, n)
-}
+    // Puts one byte.
+    pub fn put_byte(&mut self, byte: u8)
+        requires { Room (byte ∷ []) self.old }
+        ensures { Put (byte ∷ []) self.old self.new }
+    {
+        self.out[self.len] = byte;
+        self.len += 1;
+    }
 
-// Puts a word, a space and a number.
-fn put_named(out: &mut [u8], at: usize, word: &[u8], n: u64) -> usize
-    requires { Room (word.now ++ (32 ∷ decimal n)) at out.old }
-    ensures { Put (word.now ++ (32 ∷ decimal n)) at out.old result out.new }
-{
-    let next = put_bytes(out, at, word);
-    put_number(out, next, n)
-}
+    // Puts a number.
+    pub fn put_decimal(&mut self, n: u64)
+        requires { Room (decimal n) self.old }
+        ensures { Put (decimal n) self.old self.new }
+    {
+        let end = self.len + width(n);
+        fill_decimal(&mut self.out[self.len..end], n);
+        self.len = end;
+    }
 
-// Puts the line of a count.
-pub fn put_count(out: &mut [u8], at: usize, word: &[u8], n: u64) -> usize
-    requires { Room (count_line word.now n) at out.old }
-    ensures { Put (count_line word.now n) at out.old result out.new }
-{
-    let next = put_named(out, at, word, n);
-    put_byte(out, next, b'\n')
-}
+    // Puts a space and a number.
+    fn put_number(&mut self, n: u64)
+        requires { Room (32 ∷ decimal n) self.old }
+        ensures { Put (32 ∷ decimal n) self.old self.new }
+    {
+        self.put_byte(b' ');
+        self.put_decimal(n);
+    }
 
-// Puts the line of a count and its allowance.
-pub fn put_allowed(out: &mut [u8], at: usize, word: &[u8], n: u64, allowance: u64) -> usize
-    requires { Room (allowed_line word.now n allowance) at out.old }
-    ensures { Put (allowed_line word.now n allowance) at out.old result out.new }
-{
-    let of = put_named(out, at, word, n);
-    let next = put_named(out, of, b" of", allowance);
-    put_byte(out, next, b'\n')
-}
+    // Puts a word, a space and a number.
+    fn put_named(&mut self, word: &[u8], n: u64)
+        requires { Room (word.now ++ (32 ∷ decimal n)) self.old }
+        ensures { Put (word.now ++ (32 ∷ decimal n)) self.old self.new }
+    {
+        self.put_bytes(word);
+        self.put_number(n);
+    }
 
-// Puts the line of the two kinds of leaving.
-pub fn put_leave(out: &mut [u8], at: usize, fun: u64, inert: u64) -> usize
-    requires { Room (leave_line fun inert) at out.old }
-    ensures { Put (leave_line fun inert) at out.old result out.new }
-{
-    let second = put_named(out, at, b"leave", fun);
-    let next = put_number(out, second, inert);
-    put_byte(out, next, b'\n')
-}
+    // Puts the line of a count.
+    pub fn put_count(&mut self, word: &[u8], n: u64)
+        requires { Room (count_line word.now n) self.old }
+        ensures { Put (count_line word.now n) self.old self.new }
+    {
+        self.put_named(word, n);
+        self.put_byte(b'\n');
+    }
 
-// Puts the line of what is taken of the stores.
-pub fn put_store(out: &mut [u8], at: usize, nodes: u64, cells: u64, names: u64) -> usize
-    requires { Room (store_line nodes cells names) at out.old }
-    ensures { Put (store_line nodes cells names) at out.old result out.new }
-{
-    let second = put_named(out, at, b"store", nodes);
-    let third = put_number(out, second, cells);
-    let next = put_number(out, third, names);
-    put_byte(out, next, b'\n')
+    // Puts the line of a count and its allowance.
+    pub fn put_allowed(&mut self, word: &[u8], n: u64, allowance: u64)
+        requires { Room (allowed_line word.now n allowance) self.old }
+        ensures { Put (allowed_line word.now n allowance) self.old self.new }
+    {
+        self.put_named(word, n);
+        self.put_named(b" of", allowance);
+        self.put_byte(b'\n');
+    }
+
+    // Puts the line of the two kinds of leaving.
+    pub fn put_leave(&mut self, fun: u64, inert: u64)
+        requires { Room (leave_line fun inert) self.old }
+        ensures { Put (leave_line fun inert) self.old self.new }
+    {
+        self.put_named(b"leave", fun);
+        self.put_number(inert);
+        self.put_byte(b'\n');
+    }
+
+    // Puts the line of what is taken of the stores.
+    pub fn put_store(&mut self, nodes: u64, cells: u64, names: u64)
+        requires { Room (store_line nodes cells names) self.old }
+        ensures { Put (store_line nodes cells names) self.old self.new }
+    {
+        self.put_named(b"store", nodes);
+        self.put_number(cells);
+        self.put_number(names);
+        self.put_byte(b'\n');
+    }
 }

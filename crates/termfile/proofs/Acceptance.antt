@@ -14,7 +14,7 @@ use Rattle.termfile.specs.File.{max_free, max_nodes, free_names, node_count, tag
 use Rattle.termfile.specs.Passes.{Framed}
 use Rattle.termfile.proofs.Reading.{read_is, length-write, count-write, weigh-only-le}
 use Rattle.termfile.proofs.Bytes.{tags-nodes, length-nodes}
-use Rattle.termfile.proofs.Refusals.{unless-none, headed-refusal}
+use Rattle.termfile.proofs.Refusals.{unless-none, framed-refusal}
 
 -- what the tests say of a file that passes them all
 pub record Accepted (s : List ℕ) : Type 0 where
@@ -67,7 +67,7 @@ module _ {s : List ℕ} (a : Accepted s) where
   accepted-back =
       let framed : Framed s (node_count s) = record { count = refl; long = a.exact; least = a.nodes_pos; most = a.nodes_limit } in
       rw (
-        headed-refusal (record { framed = framed; names = refl; few = a.free_limit }),
+        framed-refusal framed a.free_limit,
         a.known_tags,
         a.is_code,
         a.in_order,

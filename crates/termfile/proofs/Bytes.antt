@@ -29,7 +29,7 @@ words_back (x ∷ []) n e b = absurd (omega arith)
 words_back (x ∷ y ∷ l) n e b =
     rw (word_low x y (b 0), word-high x y (b 0), words_back l (n - 1) (omega arith) (λ i. b (suc (suc i))))
 
-length-words : (l : List ℕ) (n : ℕ) → length l ≡ 2 * n → length (words l) ≡ n
+pub length-words : (l : List ℕ) (n : ℕ) → length l ≡ 2 * n → length (words l) ≡ n
 length-words [] n e = omega arith
 length-words (x ∷ []) n e = absurd (omega arith)
 length-words (x ∷ y ∷ l) n e = omega (arith, length-words l (n - 1) (omega arith))
@@ -48,7 +48,7 @@ length-words_bytes (m ∷ ms) = omega (arith, length-words_bytes ms)
 
 -- Nodes as two lists
 
-tags-pairs : (ts ms : List ℕ) → length ts ≡ length ms → map (λ n. n.tag) (pairs ts ms) ≡ ts
+pub tags-pairs : (ts ms : List ℕ) → length ts ≡ length ms → map (λ n. n.tag) (pairs ts ms) ≡ ts
 tags-pairs [] ms e = refl
 tags-pairs (t ∷ ts) [] e = absurd (omega arith)
 tags-pairs (t ∷ ts) (m ∷ ms) e = ap (λ l. t ∷ l) (tags-pairs ts ms (omega arith))

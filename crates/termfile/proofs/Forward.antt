@@ -7,7 +7,8 @@ use Prim.Native.Nat.{ℕ, zero, suc, ◌+◌, ◌≤◌, ◌<◌}
 use mathlib.Core.Path.{◌≡◌, refl, sym, ap, ap₂, subst, ◌∙◌}
 use mathlib.Core.Bool.{Bool, true, false, cond, ◌&&◌, and-eq-true_iff}
 use mathlib.Core.List.{List, [], ◌∷◌, ◌++◌, append_assoc, append-nil}
-use mathlib.Core.Option.{Option, none, some, none-ne-some}
+use mathlib.Core.Option as math
+use mathlib.Core.Option.{none, some, none-ne-some}
 use native.Mathlib.Omega.{arith}
 use native.Mathlib.Numerals.{add-one}
 use lib.Dec.{eqb, ltb}
@@ -15,35 +16,32 @@ use lib.ListN.{length, get_or, length-append}
 use borrow.Author.Tests.{lt-ltb, le-ltb, eq-eqb, ne_eqb, eqb-true, ltb-true}
 use Rattle.termfile.specs.Code.{Code, var, abs, app, size, abstractions, numbered, scoped}
 use Rattle.termfile.specs.Nodes.{Node, write, forest, single, read}
-use Rattle.termfile.specs.File.{nodes, code_of}
-use Rattle.termfile.specs.Passes.{Framed, tested}
-use Rattle.termfile.specs.declared.pass.Tested.{Tested}
-use Rattle.termfile.specs.declared.pass.Tested.TheVariants.{Passed, Failed}
-use Rattle.termfile.proofs.Frame.{length-nodes}
+use Rattle.termfile.specs.Passes.{tested}
+use Rattle.std.specs.Prelude.{Option, Some, None}
 use Rattle.termfile.proofs.Reading.{read_is, length-write, size-pos}
 use Rattle.termfile.proofs.Visibility.{sees, sees-member, ends_in, ends_in-most, length-ends_in, Agrees, agrees-later, agrees-binder}
 
-abbrev pub passes : ℕ → ℕ → List ℕ → List ℕ → List Node → Tested
-passes f p due es [] = cond (eqb (get_or due 0 1) 0) (Passed (length es)) Failed
-passes f p [] es (node ∷ ns) = Failed
+abbrev pub passes : ℕ → ℕ → List ℕ → List ℕ → List Node → Option ℕ
+passes f p due es [] = cond (eqb (get_or due 0 1) 0) (Some (length es)) None
+passes f p [] es (node ∷ ns) = None
 passes f p (e ∷ due) es (node ∷ ns) =
-    cond (eqb node.tag 0) (cond (eqb e (suc p) && sees f p es node.argument) (passes f (suc p) due es ns) Failed)
-    (cond (eqb node.tag 1) (cond (eqb node.argument (f + length es)) (passes f (suc p) (e ∷ due) (es ++ (e ∷ [])) ns) Failed)
-    (cond (eqb node.tag 2) (cond (ltb (suc p + node.argument) e) (passes f (suc p) ((suc p + node.argument) ∷ e ∷ due) es ns) Failed) Failed))
+    cond (eqb node.tag 0) (cond (eqb e (suc p) && sees f p es node.argument) (passes f (suc p) due es ns) None)
+    (cond (eqb node.tag 1) (cond (eqb node.argument (f + length es)) (passes f (suc p) (e ∷ due) (es ++ (e ∷ [])) ns) None)
+    (cond (eqb node.tag 2) (cond (ltb (suc p + node.argument) e) (passes f (suc p) ((suc p + node.argument) ∷ e ∷ due) es ns) None) None))
 
 -- Over the nodes of a code the pass is the paper's two conditions, and goes on behind them
 
-both : (a b c d : Bool) (r : Tested) → cond (a && b) (cond (c && d) r Failed) Failed ≡ cond ((a && c) && (b && d)) r Failed
+both : (a b c d : Bool) (r : Option ℕ) → cond (a && b) (cond (c && d) r None) None ≡ cond ((a && c) && (b && d)) r None
 both true true c d r = refl
 both true false true d r = refl
 both true false false d r = refl
 both false b c d r = refl
 
 passes-write : (c : Code) (f p q : ℕ) (due es around : List ℕ) (ns : List Node) → q ≡ p + size c → Agrees f around es p q
-    → passes f p (q ∷ due) es (write c ++ ns) ≡ cond (numbered (f + length es) c && scoped f around c) (passes f q due (es ++ ends_in p c) ns) Failed
+    → passes f p (q ∷ due) es (write c ++ ns) ≡ cond (numbered (f + length es) c && scoped f around c) (passes f q due (es ++ ends_in p c) ns) None
 passes-write (var x) f p q due es around ns e a =
     rw (eq-eqb q (suc p) (omega arith), sees-member f around es p q x a (omega arith), append-nil es)
-    (ap (λ (i : ℕ). cond (scoped f around (var x)) (passes f i due es ns) Failed) next)
+    (ap (λ (i : ℕ). cond (scoped f around (var x)) (passes f i due es ns) None) next)
   where
     next : suc p ≡ q
     next = omega arith
@@ -58,26 +56,26 @@ passes-write (abs x c) f p q due es around ns e a =
     more = append_assoc es (q ∷ []) (ends_in (suc p) c) ∙ ap (λ (i : ℕ). es ++ (i ∷ ends_in (suc p) c)) e
 
     -- the pass from the body on, and what it has to be
-    body : Tested
+    body : Option ℕ
     body = passes f (suc p) (q ∷ due) (es ++ (q ∷ [])) (write c ++ ns)
 
-    after : ℕ → List ℕ → Tested
-    after k ds = cond (numbered k c && scoped f (x ∷ around) c) (passes f q due ds ns) Failed
+    after : ℕ → List ℕ → Option ℕ
+    after k ds = cond (numbered k c && scoped f (x ∷ around) c) (passes f q due ds ns) None
 
     go : (b : Bool) → (b ≡ true → x ≡ f + length es)
         → (x ≡ f + length es → body ≡ after (f + length (es ++ (q ∷ []))) (es ++ (q ∷ []) ++ ends_in (suc p) c))
-        → cond b body Failed
-        ≡ cond ((b && numbered (suc (f + length es)) c) && scoped f (x ∷ around) c) (passes f q due (es ++ ends_in p (abs x c)) ns) Failed
+        → cond b body None
+        ≡ cond ((b && numbered (suc (f + length es)) c) && scoped f (x ∷ around) c) (passes f q due (es ++ ends_in p (abs x c)) ns) None
     go true h inner = inner (h refl) ∙ ap₂ after longer more
     go false h inner = refl
 passes-write (app c d) f p q due es around ns e a =
     rw (lt-ltb (suc p + size c) q (omega (arith, size-pos d)))
     (ap (passes f (suc p) ((suc p + size c) ∷ q ∷ due) es) (append_assoc (write c) (write d) ns)
     ∙ passes-write c f (suc p) (suc p + size c) (q ∷ due) es around (write d ++ ns) refl (λ k j l u. a k j (omega arith) (omega arith))
-    ∙ ap (λ (r : Tested). cond (numbered (f + length es) c && scoped f around c) r Failed)
+    ∙ ap (λ (r : Option ℕ). cond (numbered (f + length es) c && scoped f around c) r None)
     (passes-write d f (suc p + size c) q due (es ++ ends_in (suc p) c) around ns (omega arith)
     (agrees-later f around es (ends_in (suc p) c) p (suc p + size c) q a (omega arith) (ends_in-most c (suc p) (suc p + size c) (omega arith)))
-    ∙ ap₂ (λ (k : ℕ) (ds : List ℕ). cond (numbered k d && scoped f around d) (passes f q due ds ns) Failed) names
+    ∙ ap₂ (λ (k : ℕ) (ds : List ℕ). cond (numbered k d && scoped f around d) (passes f q due ds ns) None) names
     (append_assoc es (ends_in (suc p) c) (ends_in (suc p + size c) d)))
     ∙ both (numbered (f + length es) c) (scoped f around c) (numbered (f + length es + abstractions c) d) (scoped f around d)
     (passes f q due (es ++ ends_in p (app c d)) ns))
@@ -105,10 +103,10 @@ record Shape (ns : List Node) (p : ℕ) (due : List ℕ) : Type 0 where
   close : due ≡ closings p codes
 
 -- to fail is not to pass
-pub failed-passed : {k : ℕ} → Failed ≡ Passed k → ⊥
+pub failed-passed : {k : ℕ} → None ≡ Some k → ⊥
 failed-passed e = let z : ◌≡◌ {A = ℕ} 0 1 = cc in omega arith
 
-cond-passed : (b : Bool) (r : Tested) (k : ℕ) → cond b r Failed ≡ Passed k → (b ≡ true) × (r ≡ Passed k)
+cond-passed : (b : Bool) (r : Option ℕ) (k : ℕ) → cond b r None ≡ Some k → (b ≡ true) × (r ≡ Some k)
 cond-passed true r k e = (refl, e)
 cond-passed false r k e = absurd (failed-passed e)
 
@@ -156,7 +154,7 @@ other_tag : (t j : ℕ) → j ≤ 2 → eqb (suc (suc (suc t))) j ≡ false
 other_tag t j h = ne_eqb (suc (suc (suc t))) j (λ e. omega arith)
 
 -- nodes that pass, up to the last of them, have this shape
-passes-shape : (ns : List Node) (f n p k : ℕ) (due es : List ℕ) → Closes n p due → n ≡ p + length ns → passes f p due es ns ≡ Passed k → Shape ns p due
+passes-shape : (ns : List Node) (f n p k : ℕ) (due es : List ℕ) → Closes n p due → n ≡ p + length ns → passes f p due es ns ≡ Some k → Shape ns p due
 passes-shape [] f n p k [] es h e q = absurd h
 passes-shape [] f n p k (d ∷ []) es h e q = record { codes = []; whole = refl; close = ap (λ (i : ℕ). i ∷ []) h.0 }
 passes-shape [] f n p k (d ∷ d' ∷ due) es h e q = absurd (failed-passed (rw (ne_eqb d 0 (λ z. omega (arith, h.0))) at q))
@@ -165,8 +163,8 @@ passes-shape (node ∷ ns) f n p k (d ∷ []) es h e q = absurd (omega (arith, h
 passes-shape (node ∷ ns) f n p k (d ∷ d' ∷ due) es h e q =
     go node.tag (λ l ds c r. passes-shape ns f n (suc p) k l ds c (omega arith) r) q
   where
-    go : (t : ℕ) → ((l ds : List ℕ) → Closes n (suc p) l → passes f (suc p) l ds ns ≡ Passed k → Shape ns (suc p) l)
-        → passes f p (d ∷ d' ∷ due) es (record { tag = t; argument = node.argument } ∷ ns) ≡ Passed k
+    go : (t : ℕ) → ((l ds : List ℕ) → Closes n (suc p) l → passes f (suc p) l ds ns ≡ Some k → Shape ns (suc p) l)
+        → passes f p (d ∷ d' ∷ due) es (record { tag = t; argument = node.argument } ∷ ns) ≡ Some k
         → Shape (record { tag = t; argument = node.argument } ∷ ns) p (d ∷ d' ∷ due)
     go zero rest r =
         let next = cond-passed _ _ k r in
@@ -193,31 +191,31 @@ shape-read {ns} {n} r = go r.codes r.whole r.close
     go (c ∷ d ∷ []) w l = absurd (omega (arith, ap length l))
     go (c ∷ d ∷ c' ∷ cs) w l = absurd (omega (arith, ap length l))
 
--- The pass over a file's nodes is the tests 4 to 7
+-- The pass over all nodes is the tests 4 to 7
 
-passed_none : (r : Tested) → ((k : ℕ) → r ≡ Passed k → ⊥) → r ≡ Failed
-passed_none (Passed k) h = absurd (h k refl)
-passed_none Failed h = refl
+passed_none : (r : Option ℕ) → ((k : ℕ) → r ≡ Some k → ⊥) → r ≡ None
+passed_none (Some k) h = absurd (h k refl)
+passed_none None h = refl
 
-pub passes-file : {s : List ℕ} {n : ℕ} → Framed s n → (f : ℕ) → tested f (code_of s) ≡ passes f 0 (n ∷ 0 ∷ []) [] (nodes s)
-passes-file {s} {n} framed f =
-    go (code_of s) (read_is (nodes s)) (λ k e. shape-read (passes-shape (nodes s) f n 0 k (n ∷ 0 ∷ []) [] closes long e))
+pub passes-nodes : (ns : List Node) {n : ℕ} → length ns ≡ n → 1 ≤ n → (f : ℕ) → tested f (read ns) ≡ passes f 0 (n ∷ 0 ∷ []) [] ns
+passes-nodes ns {n} many least f =
+    go (read ns) (read_is ns) (λ k e. shape-read (passes-shape ns f n 0 k (n ∷ 0 ∷ []) [] closes long e))
   where
-    long : n ≡ 0 + length (nodes s)
-    long = omega (arith, length-nodes framed)
+    long : n ≡ 0 + length ns
+    long = omega arith
 
     closes : Closes n 0 (n ∷ 0 ∷ [])
-    closes = (framed.least, omega arith, (refl, refl))
+    closes = (least, omega arith, (refl, refl))
 
-    go : (o : Option Code) → ((c : Code) → o ≡ some c → nodes s ≡ write c)
-        → ((k : ℕ) → passes f 0 (n ∷ 0 ∷ []) [] (nodes s) ≡ Passed k → (c : Code) × (o ≡ some c))
-        → tested f o ≡ passes f 0 (n ∷ 0 ∷ []) [] (nodes s)
+    go : (o : math.Option Code) → ((c : Code) → o ≡ some c → ns ≡ write c)
+        → ((k : ℕ) → passes f 0 (n ∷ 0 ∷ []) [] ns ≡ Some k → (c : Code) × (o ≡ some c))
+        → tested f o ≡ passes f 0 (n ∷ 0 ∷ []) [] ns
     go none is code = sym (passed_none _ (λ k e. none-ne-some (code k e).0 (code k e).1))
     go (some c) is code =
         sym
         (ap (passes f 0 (n ∷ 0 ∷ []) []) (is c refl ∙ sym (append-nil (write c)))
         ∙ passes-write c f 0 n (0 ∷ []) [] [] [] size_is (λ k j l u. le-ltb j 0 (omega arith))
-        ∙ ap₂ (λ (k l : ℕ). cond (numbered k c && scoped f [] c) (Passed l) Failed) (omega arith) (length-ends_in c 0))
+        ∙ ap₂ (λ (k l : ℕ). cond (numbered k c && scoped f [] c) (Some l) None) (omega arith) (length-ends_in c 0))
       where
         size_is : n ≡ 0 + size c
-        size_is = omega (arith, length-nodes framed, ap length (is c refl), length-write c)
+        size_is = omega (arith, ap length (is c refl), length-write c)

@@ -1,37 +1,20 @@
 -- Where a file's tags, arguments and nodes stand in its bytes, and one step of a pass over them. The idea: a pass at node i has the
 -- tags, or the nodes, from i on left, and these are the one at i in front of those from i + 1 on.
 -- Assumes nothing.
-use Prim.Native.Nat.{ℕ, zero, suc, ◌+◌, ◌*◌, ◌≤◌, ◌<◌}
+use Prim.Native.Nat.{ℕ, suc, ◌+◌, ◌*◌, ◌≤◌, ◌<◌}
 use mathlib.Core.Path.{◌≡◌, refl, sym, ap, ap₂, ◌∙◌}
-use mathlib.Core.Bool.{false}
 use mathlib.Core.List.{List, [], ◌∷◌}
 use native.Mathlib.Omega.{arith}
 use native.Mathlib.Numerals.{add-one}
 use lib.ListN.{length, get_or, drop, drop_of_length-le}
 use lib.Seq.{drop-cons, get_or-take, get_or-drop}
-use borrow.Author.Tests.{le-leb, lt-leb, eq-eqb, ne_eqb}
+use borrow.Author.Tests.{eq-eqb, ne_eqb}
 use Rattle.termfile.specs.Nodes.{Node}
-use Rattle.termfile.specs.File.{word, words, pairs, tags, arguments, nodes, node_count, known, count}
+use Rattle.termfile.specs.File.{word, tags, arguments, nodes, node_count, count}
 use Rattle.termfile.specs.Passes.{Framed}
 use Rattle.termfile.proofs.Bytes.{behind}
 use Rattle.termfile.proofs.Bytes as bytes
-
--- the number i of a list of bytes stands at the byte j = 2 i
-get_or_words : (l : List ℕ) (i j : ℕ) → j ≡ 2 * i → suc j < length l → get_or (words l) i 0 ≡ word (get_or l j 0) (get_or l (suc j) 0)
-get_or_words [] i j e h = omega arith
-get_or_words (a ∷ []) i j e h = omega arith
-get_or_words (a ∷ b ∷ l) zero zero e h = refl
-get_or_words (a ∷ b ∷ l) zero (suc j) e h = omega arith
-get_or_words (a ∷ b ∷ l) (suc i) zero e h = omega arith
-get_or_words (a ∷ b ∷ l) (suc i) (suc zero) e h = omega arith
-get_or_words (a ∷ b ∷ l) (suc i) (suc (suc j)) e h = get_or_words l i j (omega arith) (omega arith)
-
-get_or-pairs : (ts ms : List ℕ) (i : ℕ) (d : Node) → i < length ts → length ts ≡ length ms
-    → get_or (pairs ts ms) i d ≡ record { tag = get_or ts i 0; argument = get_or ms i 0 }
-get_or-pairs [] ms i d h e = absurd (omega arith)
-get_or-pairs (t ∷ ts) [] i d h e = absurd (omega arith)
-get_or-pairs (t ∷ ts) (m ∷ ms) zero d h e = refl
-get_or-pairs (t ∷ ts) (m ∷ ms) (suc i) d h e = get_or-pairs ts ms i d (omega arith) (omega arith)
+use Rattle.termfile.proofs.Pairs.{get_or_words, get_or-pairs}
 
 -- where the tag and the argument of node i stand, in a file as long as its count says
 module _ (s : List ℕ) {n : ℕ} (count : n ≡ node_count s) (exact : length s ≡ 4 + 3 * node_count s) where
@@ -87,16 +70,10 @@ module _ {s : List ℕ} {n : ℕ} (framed : Framed s n) where
   pub nodes-end : (i : ℕ) → n ≤ i → drop i (nodes s) ≡ []
   nodes-end i h = let past : length (nodes s) ≤ i = omega (arith, length-nodes) in drop_of_length-le (nodes s) past
 
-  -- a pass over the tags that asks whether each is known
+  -- a pass over the tags
   module _ (i : ℕ) (left : i < n) (t : ℕ) (tag : t ≡ get_or (tags s) i 0) where
     tags-next : drop i (tags s) ≡ t ∷ drop (i + 1) (tags s)
     tags-next = tags-step i left ∙ cc (add-one i)
-
-    pub known_step : t ≤ 2 → known (drop i (tags s)) ≡ known (drop (i + 1) (tags s))
-    known_step h = rw (tags-next, le-leb t 2 h)
-
-    pub known-broken : 2 < t → known (drop i (tags s)) ≡ false
-    known-broken h = rw (tags-next, lt-leb t 2 h)
 
     pub count-step : (k : ℕ) → t ≡ k → count k (drop i (tags s)) ≡ 1 + count k (drop (i + 1) (tags s))
     count-step k h = rw (tags-next, eq-eqb t k h)

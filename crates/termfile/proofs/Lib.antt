@@ -4,6 +4,7 @@ pub mod Naming
 pub mod Sets
 pub mod Overlay
 pub mod Bytes
+pub mod Pairs
 pub mod Refusals
 pub mod Acceptance
 pub mod Told

@@ -1,7 +1,7 @@
 -- Refusal 6 as a pass over the nodes, left to right. The idea: prefix order is the order in which the pass meets the abstractions, so it
 -- need only count them. Letters: k is the name that the next abstraction has to bind.
 -- Assumes nothing.
-use Prim.Native.Nat.{ℕ, suc, ◌+◌, ◌≤◌, ◌<◌}
+use Prim.Native.Nat.{ℕ, suc, ◌+◌}
 use mathlib.Core.Path.{◌≡◌, refl, sym, ap, ◌∙◌}
 use mathlib.Core.Bool.{Bool, true, false, cond, ◌&&◌, and_assoc, and-true, false≢true}
 use mathlib.Core.List.{List, [], ◌∷◌, ◌++◌, append_assoc, append-nil}
@@ -9,13 +9,10 @@ use mathlib.Core.Option.{Option, none, some}
 use native.Mathlib.Omega.{arith}
 use native.Mathlib.Numerals.{add-one}
 use lib.Dec.{eqb}
-use lib.ListN.{get_or, drop}
 use borrow.Author.Tests.{eq-eqb, ne_eqb}
 use Rattle.termfile.specs.Code.{Code, var, abs, app, numbered, abstractions}
-use Rattle.termfile.specs.Nodes.{Node, write}
-use Rattle.termfile.specs.File.{holds, tags, arguments, nodes, code_of}
-use Rattle.termfile.specs.Passes.{Framed}
-use Rattle.termfile.proofs.Frame.{nodes-next, nodes-end}
+use Rattle.termfile.specs.Nodes.{Node, write, read}
+use Rattle.termfile.specs.File.{holds}
 use Rattle.termfile.proofs.Reading.{read_is}
 
 abbrev pub ordered : ℕ → List Node → Bool
@@ -40,22 +37,19 @@ ordered-write (app c d) k ns =
     names = omega arith
 
 -- over the nodes of a code the pass is the paper's condition
-pub ordered-code : (s : List ℕ) (f : ℕ) → holds (λ c. true) (code_of s) ≡ true → ordered f (nodes s) ≡ holds (numbered f) (code_of s)
-ordered-code s f h = go (code_of s) (read_is (nodes s)) h
+pub ordered-code : (ns : List Node) (f : ℕ) → holds (λ c. true) (read ns) ≡ true → ordered f ns ≡ holds (numbered f) (read ns)
+ordered-code ns f h = go (read ns) (read_is ns) h
   where
-    go : (o : Option Code) → ((c : Code) → o ≡ some c → nodes s ≡ write c) → holds (λ c. true) o ≡ true → ordered f (nodes s) ≡ holds (numbered f) o
+    go : (o : Option Code) → ((c : Code) → o ≡ some c → ns ≡ write c) → holds (λ c. true) o ≡ true → ordered f ns ≡ holds (numbered f) o
     go none r p = absurd (false≢true p)
     go (some c) r p = ap (ordered f) (r c refl ∙ sym (append-nil (write c))) ∙ ordered-write c f [] ∙ and-true (numbered f c)
 
-module _ {s : List ℕ} {n : ℕ} (framed : Framed s n) (i : ℕ) (h : i < n) (t m : ℕ) (tag : t ≡ get_or (tags s) i 0) (argument : m ≡ get_or (arguments s) i 0) (k : ℕ) where
-  pub order-binder : t ≡ 1 → m ≡ k → ordered k (drop i (nodes s)) ≡ ordered (k + 1) (drop (i + 1) (nodes s))
-  order-binder a b = rw (nodes-next framed i h t m tag argument, eq-eqb t 1 a, eq-eqb m k b, add-one k)
+module _ {ns later : List Node} (t m k : ℕ) (node : ns ≡ record { tag = t; argument = m } ∷ later) where
+  pub order-binder : t ≡ 1 → m ≡ k → ordered k ns ≡ ordered (k + 1) later
+  order-binder a b = rw (node, eq-eqb t 1 a, eq-eqb m k b, add-one k)
 
-  pub order-broken : t ≡ 1 → (m ≡ k → ⊥) → ordered k (drop i (nodes s)) ≡ false
-  order-broken a b = rw (nodes-next framed i h t m tag argument, eq-eqb t 1 a, ne_eqb m k b)
+  pub order-broken : t ≡ 1 → (m ≡ k → ⊥) → ordered k ns ≡ false
+  order-broken a b = rw (node, eq-eqb t 1 a, ne_eqb m k b)
 
-  pub order_other : (t ≡ 1 → ⊥) → ordered k (drop i (nodes s)) ≡ ordered k (drop (i + 1) (nodes s))
-  order_other a = rw (nodes-next framed i h t m tag argument, ne_eqb t 1 a)
-
-pub order-end : {s : List ℕ} {n : ℕ} → Framed s n → (i k : ℕ) → n ≤ i → ordered k (drop i (nodes s)) ≡ true
-order-end framed i k h = rw (nodes-end framed i h)
+  pub order_other : (t ≡ 1 → ⊥) → ordered k ns ≡ ordered k later
+  order_other a = rw (node, ne_eqb t 1 a)

@@ -3,15 +3,15 @@
 -- Assumes nothing.
 use Prim.Native.Nat.{ℕ, ◌+◌, ◌*◌, ◌≤◌, ◌<◌}
 use mathlib.Core.Path.{◌≡◌, refl}
-use mathlib.Core.Bool.{Bool, true, false}
-use mathlib.Core.List.{List, []}
+use mathlib.Core.Bool.{Bool, true, false, ◌&&◌}
+use mathlib.Core.List.{List}
 use mathlib.Core.Option.{Option, none, some, some-ne-none}
 use native.Mathlib.Omega.{arith}
+use lib.Dec.{leb}
 use lib.ListN.{length}
-use borrow.Author.Tests.{le-leb, lt-leb, eq-eqb, ne_eqb}
-use Rattle.termfile.specs.Code.{Code, numbered, scoped}
-use Rattle.termfile.specs.File.{max_free, max_nodes, free_names, node_count, code_of, holds, unless, long_enough, in_limits, exact_length, tags_known, refusal}
-use Rattle.termfile.specs.Passes.{Headed}
+use borrow.Author.Tests.{leb-true, le-leb, lt-leb, eq-eqb, ne_eqb}
+use Rattle.termfile.specs.File.{max_free, max_nodes, free_names, node_count, code_of, unless, long_enough, in_limits, exact_length, tags_known, refusal}
+use Rattle.termfile.specs.Passes.{Framed, node_tests}
 
 -- a test that does not refuse holds, and nor does a later one refuse
 pub unless-none : (q : Bool) (k : ℕ) (rest : Option ℕ) → unless q k rest ≡ none → (q ≡ true) × (rest ≡ none)
@@ -41,19 +41,20 @@ module _ (s : List ℕ) where
   pub not-long-enough : length s < 4 → long_enough s ≡ false
   not-long-enough h = lt-leb 4 (length s) h
 
-  pub many-names : max_free < free_names s → in_limits s ≡ false
-  many-names h = rw (lt-leb (free_names s) max_free h)
+  pub in-limits : free_names s ≤ max_free → 1 ≤ node_count s → node_count s ≤ max_nodes → in_limits s ≡ true
+  in-limits few least most =
+      rw (le-leb (free_names s) max_free few, le-leb 1 (node_count s) least, le-leb (node_count s) max_nodes most)
 
-  module _ (few : free_names s ≤ max_free) where
-    pub no_nodes : node_count s < 1 → in_limits s ≡ false
-    no_nodes h = rw (le-leb (free_names s) max_free few, lt-leb 1 (node_count s) h)
-
-    module _ (least : 1 ≤ node_count s) where
-      pub many-nodes : max_nodes < node_count s → in_limits s ≡ false
-      many-nodes h = rw (le-leb (free_names s) max_free few, le-leb 1 (node_count s) least, lt-leb (node_count s) max_nodes h)
-
-      pub in-limits : node_count s ≤ max_nodes → in_limits s ≡ true
-      in-limits h = rw (le-leb (free_names s) max_free few, le-leb 1 (node_count s) least, le-leb (node_count s) max_nodes h)
+  pub not-in-limits : (free_names s ≤ max_free → 1 ≤ node_count s → node_count s ≤ max_nodes → ⊥) → in_limits s ≡ false
+  not-in-limits h =
+      go (leb (free_names s) max_free) (leb 1 (node_count s)) (leb (node_count s) max_nodes) (leb-true _ _) (leb-true _ _) (leb-true _ _)
+    where
+      go : (a b c : Bool) → (a ≡ true → free_names s ≤ max_free) → (b ≡ true → 1 ≤ node_count s) → (c ≡ true → node_count s ≤ max_nodes)
+          → a && (b && c) ≡ false
+      go true true true p q r = absurd (h (p refl) (q refl) (r refl))
+      go true true false p q r = refl
+      go true false c p q r = refl
+      go false b c p q r = refl
 
   pub exact-length : length s ≡ 4 + 3 * node_count s → exact_length s ≡ true
   exact-length h = eq-eqb (length s) (4 + 3 * node_count s) h
@@ -61,19 +62,13 @@ module _ (s : List ℕ) where
   pub not-exact-length : (length s ≡ 4 + 3 * node_count s → ⊥) → exact_length s ≡ false
   not-exact-length h = ne_eqb (length s) (4 + 3 * node_count s) h
 
--- the tests 5 to 7, of f free names and of the code that the nodes stand for
-abbrev pub node_tests : ℕ → Option Code → Option ℕ
-node_tests f o = unless (holds (λ c. true) o) 5 (unless (holds (numbered f) o) 6 (unless (holds (scoped f []) o) 7 none))
-
--- what is left of the tests for a file that has passed the tests 1 to 3, where its two counts have been read
-pub headed-refusal : {s : List ℕ} {n f : ℕ} → Headed s n f → refusal s ≡ unless (tags_known s) 4 (node_tests f (code_of s))
+-- what is left of the tests for a file that has passed the tests 1 to 3
+pub framed-refusal : {s : List ℕ} {n : ℕ} → Framed s n → free_names s ≤ max_free
+    → refusal s ≡ unless (tags_known s) 4 (node_tests (free_names s) (code_of s))
 unfolding refusal
-headed-refusal {s} h =
-    let framed = h.framed in
-    let count = framed.count in
+framed-refusal {s} framed few =
     rw (
       long-enough s (omega (arith, framed.long)),
-      in-limits s (omega arith) (omega (arith, framed.least)) (omega (arith, framed.most)),
-      exact-length s (omega (arith, framed.long)),
-      h.names,
+      in-limits s few (omega (arith, framed.count, framed.least)) (omega (arith, framed.count, framed.most)),
+      exact-length s (omega (arith, framed.count, framed.long)),
     )

@@ -1,7 +1,7 @@
 -- A turn of the loop of `test_nodes`. The idea: the array has the ends of the abstractions seen in front, and what is due behind the present
 -- end from `top` on. So an abstraction puts one behind the former, an application puts one in front of the latter, a variable takes the
--- first of these off, and each is one step of the pass. The two never meet. Letters: s is a file of n nodes with f free names, i the place
--- of a node with the tag t and the argument m.
+-- first of these off, and each is one step of the pass. The two never meet. Letters: ns are n nodes, f is the count of free names, i the
+-- place of a node with the tag t and the argument m.
 -- Assumes nothing.
 use Prim.Native.Nat.{ℕ, suc, ◌+◌, ◌-◌, ◌≤◌, ◌<◌}
 use mathlib.Core.Path.{◌≡◌, refl, sym, ap, ap₂, subst, ◌∙◌}
@@ -13,64 +13,61 @@ use lib.Dec.{eqb}
 use lib.ListN.{length, get_or, take, drop, set, length-drop, length-set, drop_of_length-le}
 use lib.Seq.{drop-cons, length-take-le, drop-set-lt, take-set-le}
 use borrow.Author.Tests.{lt-ltb, le-ltb, eq-eqb, ne_eqb}
-use Rattle.termfile.specs.File.{tags, arguments, nodes, code_of}
-use Rattle.termfile.specs.Passes.{Framed, tested}
-use Rattle.termfile.specs.declared.pass.Tested.TheVariants.{Passed, Failed}
-use Rattle.termfile.proofs.Frame.{nodes-next, nodes-end}
+use Rattle.termfile.specs.Nodes.{Node, read}
+use Rattle.termfile.specs.Passes.{tested}
+use Rattle.std.specs.Prelude.{Some, None}
 use Rattle.termfile.proofs.Sets.{drop-set}
 use Rattle.termfile.proofs.Visibility.{sees, ends_more}
-use Rattle.termfile.proofs.Forward.{passes, passes-file, Closes}
+use Rattle.termfile.proofs.Forward.{passes, passes-nodes, Closes}
 
 -- before node i: `seen` abstractions have been passed, and the rest of the pass decides
-pub record Passing (s : List ℕ) (n f : ℕ) (ends : List ℕ) (top end seen i : ℕ) : Type 0 where
+pub record Passing (ns : List Node) (n f : ℕ) (ends : List ℕ) (top end seen i : ℕ) : Type 0 where
   pub within : i ≤ n
   pub few : seen ≤ i
   pub room : length ends + seen ≤ top + i + 1
   pub closes : Closes n i (end ∷ drop top ends)
-  pub same : tested f (code_of s) ≡ passes f i (end ∷ drop top ends) (take seen ends) (drop i (nodes s))
+  pub same : tested f (read ns) ≡ passes f i (end ∷ drop top ends) (take seen ends) (drop i ns)
 
 -- at node i, which has been read
-pub record Turn (s : List ℕ) (n f : ℕ) (ends : List ℕ) (top end seen i t m : ℕ) : Type 0 where
-  pub framed : Framed s n
+pub record Turn (ns : List Node) (n f : ℕ) (ends : List ℕ) (top end seen i t m : ℕ) : Type 0 where
   pub long : n < length ends
-  pub passing : Passing s n f ends top end seen i
+  pub passing : Passing ns n f ends top end seen i
   pub left : i < n
-  pub tag : t ≡ get_or (tags s) i 0
-  pub argument : m ≡ get_or (arguments s) i 0
+  pub node : drop i ns ≡ record { tag = t; argument = m } ∷ drop (i + 1) ns
 
 -- the start, with a 0 stored in the last place
-pub passing-start : {s : List ℕ} {n : ℕ} → Framed s n → (f : ℕ) (ends : List ℕ) → n < length ends
-    → Passing s n f (set ends (length ends - 1) 0) (length ends - 1) n 0 0
-passing-start {s} {n} framed f ends h =
+pub passing-start : (ns : List Node) {n : ℕ} → length ns ≡ n → 1 ≤ n → (f : ℕ) (ends : List ℕ) → n < length ends
+    → Passing ns n f (set ends (length ends - 1) 0) (length ends - 1) n 0 0
+passing-start ns {n} many least f ends h =
     record {
       within = omega arith;
       few = omega arith;
       room = simp length-set (omega arith);
-      closes = rw bottom (framed.least, omega arith, (refl, refl));
-      same = rw bottom (passes-file framed f);
+      closes = rw bottom (least, omega arith, (refl, refl));
+      same = rw bottom (passes-nodes ns many least f);
     }
   where
     last : length ends ≤ suc (length ends - 1)
-    last = omega (arith, framed.least)
+    last = omega arith
 
     bottom : drop (length ends - 1) (set ends (length ends - 1) 0) ≡ 0 ∷ []
     bottom =
-        drop-set ends (length ends - 1) 0 (omega (arith, framed.least))
+        drop-set ends (length ends - 1) 0 (omega arith)
         ∙ ap (λ (l : List ℕ). 0 ∷ l) (drop_of_length-le ends last)
 
 -- the end
-pub passing-end : {s : List ℕ} {n f : ℕ} {ends : List ℕ} {top end seen i : ℕ} → Framed s n → n < length ends
-    → Passing s n f ends top end seen i → n ≤ i → tested f (code_of s) ≡ cond (eqb end 0) (Passed seen) Failed
-passing-end {ends = ends} {end = end} {seen = seen} {i = i} framed long p h =
-    p.same ∙ rw (nodes-end framed i h, length-take-le seen ends (omega (arith, p.few, p.within)))
+pub passing-end : {ns : List Node} {n f : ℕ} {ends : List ℕ} {top end seen i : ℕ} → n < length ends
+    → Passing ns n f ends top end seen i → drop i ns ≡ [] → tested f (read ns) ≡ cond (eqb end 0) (Some seen) None
+passing-end {ends = ends} {end = end} {seen = seen} {i = i} long p e =
+    p.same ∙ rw (e, length-take-le seen ends (omega (arith, p.few, p.within)))
 
-module _ {s : List ℕ} {n f : ℕ} {ends : List ℕ} {top end seen i t m : ℕ} (u : Turn s n f ends top end seen i t m) where
-  abbrev p : Passing s n f ends top end seen i
+module _ {ns : List Node} {n f : ℕ} {ends : List ℕ} {top end seen i t m : ℕ} (u : Turn ns n f ends top end seen i t m) where
+  abbrev p : Passing ns n f ends top end seen i
   p = u.passing
 
   -- the pass from node i on
-  here : tested f (code_of s) ≡ passes f i (end ∷ drop top ends) (take seen ends) (record { tag = t; argument = m } ∷ drop (i + 1) (nodes s))
-  here = p.same ∙ ap (passes f i (end ∷ drop top ends) (take seen ends)) (nodes-next u.framed i u.left t m u.tag u.argument)
+  here : tested f (read ns) ≡ passes f i (end ∷ drop top ends) (take seen ends) (record { tag = t; argument = m } ∷ drop (i + 1) ns)
+  here = p.same ∙ ap (passes f i (end ∷ drop top ends) (take seen ends)) u.node
 
   length-ends : length (take seen ends) ≡ seen
   length-ends = length-take-le seen ends (omega (arith, u.long, p.within, p.few))
@@ -96,25 +93,25 @@ module _ {s : List ℕ} {n f : ℕ} {ends : List ℕ} {top end seen i t m : ℕ}
 
   -- Where the pass fails
 
-  pub fails-end : t ≡ 0 → (end ≡ i + 1 → ⊥) → tested f (code_of s) ≡ Failed
+  pub fails-end : t ≡ 0 → (end ≡ i + 1 → ⊥) → tested f (read ns) ≡ None
   fails-end a b = here ∙ rw (eq-eqb t 0 a, ne_eqb end (suc i) (λ e. b (omega arith)))
 
-  pub fails-scope : t ≡ 0 → sees f i (take seen ends) m ≡ false → tested f (code_of s) ≡ Failed
+  pub fails-scope : t ≡ 0 → sees f i (take seen ends) m ≡ false → tested f (read ns) ≡ None
   fails-scope a b = here ∙ rw (eq-eqb t 0 a, b, and-false (eqb end (suc i)))
 
-  pub fails-name : t ≡ 1 → (m ≡ f + seen → ⊥) → tested f (code_of s) ≡ Failed
+  pub fails-name : t ≡ 1 → (m ≡ f + seen → ⊥) → tested f (read ns) ≡ None
   fails-name a b = here ∙ rw (a, length-ends, ne_eqb m (f + seen) b)
 
-  pub fails-left : t ≡ 2 → end ≤ i + 1 + m → tested f (code_of s) ≡ Failed
+  pub fails-left : t ≡ 2 → end ≤ i + 1 + m → tested f (read ns) ≡ None
   fails-left a b = here ∙ rw (a, le-ltb (suc i + m) end (omega arith))
 
-  pub fails-tag : (t ≡ 0 → ⊥) → (t ≡ 1 → ⊥) → (t ≡ 2 → ⊥) → tested f (code_of s) ≡ Failed
+  pub fails-tag : (t ≡ 0 → ⊥) → (t ≡ 1 → ⊥) → (t ≡ 2 → ⊥) → tested f (read ns) ≡ None
   fails-tag a b c = here ∙ rw (ne_eqb t 0 a, ne_eqb t 1 b, ne_eqb t 2 c)
 
   -- Where it goes on
 
   -- a variable: what is due next is taken off
-  pub variable-next : t ≡ 0 → end ≡ i + 1 → sees f i (take seen ends) m ≡ true → Passing s n f ends (top + 1) (get_or ends top 0) seen (i + 1)
+  pub variable-next : t ≡ 0 → end ≡ i + 1 → sees f i (take seen ends) m ≡ true → Passing ns n f ends (top + 1) (get_or ends top 0) seen (i + 1)
   variable-next a b c =
       record {
         within = omega arith;
@@ -124,7 +121,7 @@ module _ {s : List ℕ} {n f : ℕ} {ends : List ℕ} {top end seen i t m : ℕ}
         same =
             here
             ∙ rw (eq-eqb t 0 a, eq-eqb end (suc i) (omega arith), c)
-            (ap₂ (λ (j : ℕ) (l : List ℕ). passes f j l (take seen ends) (drop (i + 1) (nodes s))) (sym (add-one i)) off);
+            (ap₂ (λ (j : ℕ) (l : List ℕ). passes f j l (take seen ends) (drop (i + 1) ns)) (sym (add-one i)) off);
       }
     where
       off : drop top ends ≡ get_or ends top 0 ∷ drop (top + 1) ends
@@ -135,7 +132,7 @@ module _ {s : List ℕ} {n f : ℕ} {ends : List ℕ} {top end seen i t m : ℕ}
   apart = omega (arith, u.long, p.room, u.left)
 
   -- an abstraction: where it has to end is stored
-  pub binder-next : t ≡ 1 → m ≡ f + seen → Passing s n f (set ends seen end) top end (seen + 1) (i + 1)
+  pub binder-next : t ≡ 1 → m ≡ f + seen → Passing ns n f (set ends seen end) top end (seen + 1) (i + 1)
   binder-next a b =
       record {
         within = omega arith;
@@ -145,7 +142,7 @@ module _ {s : List ℕ} {n f : ℕ} {ends : List ℕ} {top end seen i t m : ℕ}
         same =
             here
             ∙ rw (a, length-ends, eq-eqb m (f + seen) b, due)
-            (ap₂ (λ (j : ℕ) (es : List ℕ). passes f j (end ∷ drop top ends) es (drop (i + 1) (nodes s))) (sym (add-one i))
+            (ap₂ (λ (j : ℕ) (es : List ℕ). passes f j (end ∷ drop top ends) es (drop (i + 1) ns)) (sym (add-one i))
             (sym (ends_more ends seen end (omega (arith, apart, due-more)))));
       }
     where
@@ -153,7 +150,7 @@ module _ {s : List ℕ} {n f : ℕ} {ends : List ℕ} {top end seen i t m : ℕ}
       due = drop-set-lt top ends seen end apart
 
   -- an application: where it has to end is put in front of what is due, and its left part is the present subterm
-  pub application-next : t ≡ 2 → i + 1 + m < end → Passing s n f (set ends (top - 1) end) (top - 1) (i + 1 + m) seen (i + 1)
+  pub application-next : t ≡ 2 → i + 1 + m < end → Passing ns n f (set ends (top - 1) end) (top - 1) (i + 1 + m) seen (i + 1)
   application-next a b =
       record {
         within = omega arith;
@@ -163,7 +160,7 @@ module _ {s : List ℕ} {n f : ℕ} {ends : List ℕ} {top end seen i t m : ℕ}
         same =
             here
             ∙ rw (a, lt-ltb (suc i + m) end (omega arith), take-set-le seen ends (top - 1) end (omega (arith, apart)))
-            (ap₂ (λ (j : ℕ) (l : List ℕ). passes f j ((j + m) ∷ l) (take seen ends) (drop (i + 1) (nodes s))) (sym (add-one i)) (sym on));
+            (ap₂ (λ (j : ℕ) (l : List ℕ). passes f j ((j + m) ∷ l) (take seen ends) (drop (i + 1) ns)) (sym (add-one i)) (sym on));
       }
     where
       above : suc (top - 1) ≡ top

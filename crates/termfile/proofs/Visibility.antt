@@ -9,21 +9,14 @@ use mathlib.Core.List.{List, [], ◌∷◌, ◌++◌}
 use native.Mathlib.Omega.{arith}
 use native.Mathlib.Numerals.{add-one}
 use lib.Dec.{eqb, ltb}
-use lib.ListN.{length, get_or, take, set, length-append, get_or-eq_default}
-use lib.Seq.{get_or-append_seam, take-suc-set, get_or-take}
+use lib.ListN.{length, get_or, take, set, length-append}
+use lib.Seq.{get_or-append_seam, take-suc-set}
 use borrow.Author.Tests.{lt-ltb, le-ltb, eqb-true, eqb-false, ltb-false}
 use Rattle.termfile.specs.Code.{Code, var, abs, app, size, abstractions, member}
 
 -- at position p: the name x is free, or is that of an abstraction passed whose end is still to come
 abbrev pub sees : ℕ → ℕ → List ℕ → ℕ → Bool
 sees f p es x = ltb x f || ltb p (get_or es (x - f) 0)
-
--- what `visible` answers, where the ends are the first of an array
-pub sees-none : (f p x : ℕ) (es : List ℕ) → f ≤ x → length es ≤ x - f → sees f p es x ≡ false
-sees-none f p x es h l = rw (le-ltb x f h, get_or-eq_default es 0 l) (le-ltb p 0 (omega arith))
-
-pub sees-first : (f p x seen : ℕ) (es : List ℕ) → f ≤ x → x - f < seen → sees f p (take seen es) x ≡ ltb p (get_or es (x - f) 0)
-sees-first f p x seen es h l = rw (le-ltb x f h, get_or-take seen es (x - f) 0 l)
 
 -- the ends of the abstractions of a code that starts at p
 abbrev pub ends_in : ℕ → Code → List ℕ

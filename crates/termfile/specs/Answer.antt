@@ -1,10 +1,8 @@
 -- What `check` answers, in the paper's numbers.
-use Rattle.std.specs.Prelude.{ℕ, List}
+use Rattle.std.specs.Prelude.{ℕ, List, Result, Ok, Err}
 use Rattle.std.proofs.Math.Option.{Option, none, some}
 use Rattle.termfile.specs.File.{counts, refusal}
 use Rattle.termfile.specs.declared.Counts.{Counts}
-use Rattle.termfile.specs.declared.Checked.{Checked}
-use Rattle.termfile.specs.declared.Checked.TheVariants.{Accepted, Refused}
 use Rattle.termfile.specs.declared.Refusal.{Refusal}
 use Rattle.termfile.specs.declared.Refusal.TheVariants.{Short, Limits, Length, Tag, Shape, Binder, Variable}
 
@@ -31,6 +29,6 @@ number Shape = 5
 number Binder = 6
 number Variable = 7
 
-abbrev pub told : Checked → Answer
-told (Refused r) = refused (number r)
-told (Accepted c) = accepted c
+abbrev pub told : Result Counts Refusal → Answer
+told (Err r) = refused (number r)
+told (Ok c) = accepted c

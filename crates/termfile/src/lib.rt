@@ -1,8 +1,8 @@
-// The term file: whether a byte string is one; and `word`, the number of two of its bytes. `check`
-// takes any byte string and promises the answer that paper 01's table of numbered answers gives for
-// it: the counts of an accepted file, or the first refusal that the file meets, each tested over the
-// whole file before the next. It writes to nothing that is lent to it, and takes time linear in the
-// file; over the nodes of an accepted file it goes once. Refused are:
+// The term file: whether a byte string is one; `word`, the number of two of its bytes; and `file_length`,
+// the length that its count of nodes asks for. `check` takes any byte string and promises the counts of
+// an accepted file, or the first refusal of this list that the file meets, each tested over the whole
+// file before the next. It writes to nothing that is lent to it, and takes time linear in the file; over
+// the nodes of an accepted file it goes once. Refused are:
 //
 //   1 Short     fewer than 4 bytes
 //   2 Limits    above 16,384 free names, no node, or above 16,384 nodes
@@ -15,26 +15,25 @@
 #![tactic(auto)]
 
 mod binders;
-mod layout;
+mod parts;
 mod pass;
 mod shape;
 mod tags;
 
-ghost use Rattle.std.specs.Prelude.{◌≡◌, ◌≤◌, ◌<◌, length};
+ghost use Rattle.std.specs.Prelude.{◌≡◌, ◌+◌, ◌*◌, ◌≤◌, ◌<◌, length, None};
 ghost use Rattle.std.proofs.Math.Option.{some};
 ghost use Rattle.termfile.specs.Answer.{answer, told, number};
-ghost use Rattle.termfile.specs.File.{word, code_of, refusal, max_nodes};
-ghost use Rattle.termfile.specs.Passes.{Headed, tested, counts_from};
-ghost use Rattle.termfile.specs.declared.pass.Tested.TheVariants.{Failed};
+ghost use Rattle.termfile.specs.File.{word, max_nodes};
+ghost use Rattle.termfile.specs.Passes.{code_in, refusal_in, answer_in, tested, counts_from};
 
 use binders::in_order;
-use layout::word_at;
-use pass::{Tested, test_nodes};
+use parts::Parts;
+use pass::test_nodes;
 use shape::is_term;
 use tags::tags_known;
 
 // Why a byte string is not a term file, in the order in which the tests are made.
-#[derive(Clone, Copy)]
+#[derive(Clone, Copy, Debug, PartialEq, Eq)]
 pub enum Refusal {
     Short,
     Limits,
@@ -46,7 +45,7 @@ pub enum Refusal {
 }
 
 // What is told of an accepted file.
-#[derive(Clone, Copy)]
+#[derive(Clone, Copy, Debug, PartialEq, Eq)]
 pub struct Counts {
     pub free: usize,
     pub nodes: usize,
@@ -55,26 +54,21 @@ pub struct Counts {
     pub applications: usize,
 }
 
-// What `check` answers.
-#[derive(Clone, Copy)]
-pub enum Checked {
-    Accepted(Counts),
-    Refused(Refusal),
-}
-
-// The number that paper 01 gives a refusal. Ruled out, for instance: 7 for a binder in the wrong
-// place (must-fail/binder_is_seven.edit).
-pub fn number(why: Refusal) -> u64
-    ensures { result ≡ number why }
-{
-    match why {
-        Refusal::Short => 1,
-        Refusal::Limits => 2,
-        Refusal::Length => 3,
-        Refusal::Tag => 4,
-        Refusal::Shape => 5,
-        Refusal::Binder => 6,
-        Refusal::Variable => 7,
+impl Refusal {
+    // The number of a refusal. Ruled out, for instance: 7 for a binder in the wrong place
+    // (must-fail/binder_is_seven.edit).
+    pub fn number(self) -> u64
+        ensures { result ≡ number self }
+    {
+        match self {
+            Refusal::Short => 1,
+            Refusal::Limits => 2,
+            Refusal::Length => 3,
+            Refusal::Tag => 4,
+            Refusal::Shape => 5,
+            Refusal::Binder => 6,
+            Refusal::Variable => 7,
+        }
     }
 }
 
@@ -86,16 +80,77 @@ pub fn word(low: u8, high: u8) -> usize
     (low as usize) + 256 * (high as usize)
 }
 
+// How many bytes a file has whose count of nodes is the number of these two bytes. Ruled out, for
+// instance: a length with one byte for each argument (must-fail/file_of_single_bytes.edit).
+pub fn file_length(low: u8, high: u8) -> usize
+    ensures { result ≡ 4 + 3 * word low high }
+{
+    // In 32 bits, for machines without a wide multiply.
+    (4 + 3 * (word(low, high) as u32)) as usize
+}
+
 // The most free names, and the most nodes, that a term file has.
-const MAX_FREE: usize = 16384;
+pub const MAX_FREE: usize = 16384;
 
-const MAX_NODES: usize = 16384;
+pub const MAX_NODES: usize = 16384;
 
-// The most nodes of a file that is checked in a small array, and in one of middle size: to zero a larger
-// one takes long beside all else that such a file asks for.
-const SMALL: usize = 64;
+// The lengths of the arrays that files are checked in, the smallest with more numbers than the file has
+// nodes: to zero a larger one takes long beside all else that a small file asks for.
+const SMALL: usize = 65;
 
-const MIDDLE: usize = 1024;
+const MIDDLE: usize = 1025;
+
+const LARGE: usize = MAX_NODES + 1;
+
+// The refusal of a file that is known not to pass all tests: the first of the last four that it does not
+// pass, and the last where it passes those before. `sizes` is for its own use.
+fn first_refusal(parts: Parts, sizes: &mut [u16]) -> Refusal
+    requires n_in_bounds { length parts.tags.now ≤ length sizes.old }
+    requires fails { tested parts.free (code_in parts) ≡ None }
+    ensures { refusal_in parts.entry ≡ some (number result) }
+{
+    if !tags_known(parts) {
+        return Refusal::Tag;
+    }
+    if !is_term(parts, sizes) {
+        return Refusal::Shape;
+    }
+    if !in_order(parts) {
+        return Refusal::Binder;
+    }
+    Refusal::Variable
+}
+
+// The counts of a term with `seen` abstractions: of the other nodes, one more is a variable than is an
+// application.
+fn counted(parts: Parts, seen: usize) -> Counts
+    requires { seen < length parts.tags.now }
+    ensures { result ≡ counts_from parts.entry.free (length parts.entry.tags.now) seen }
+{
+    let nodes = parts.len();
+    let variables = (nodes - seen + 1) / 2;
+    Counts {
+        free: parts.free,
+        nodes,
+        abstractions: seen,
+        variables,
+        applications: variables - 1,
+    }
+}
+
+// The answer for a file, found in an array of N numbers: one pass over the nodes tells whether it passes
+// the last four tests, and only where it does not are these made one by one.
+fn check_parts<const N: usize>(parts: Parts) -> Result<Counts, Refusal>
+    requires n_in_bounds { length parts.tags.now < N }
+    requires small_array { N ≤ max_nodes + 1 }
+    ensures { told result ≡ answer_in parts.entry }
+{
+    let mut ends = [0u16; N];
+    let Some(seen) = test_nodes(parts, &mut ends) else {
+        return Err(first_refusal(parts, &mut ends));
+    };
+    Ok(counted(parts, seen))
+}
 
 // Whether a byte string is a term file: its counts, or the first of the seven refusals that it
 // meets. The answer is an equation with its definition, for every byte string; only an array of the
@@ -105,87 +160,16 @@ const MIDDLE: usize = 1024;
 // neighbouring abstraction and not by one around it (must-fail/scope_past_end.edit); and answering
 // 7 for a file in which an abstraction also binds a wrong name, which is 6
 // (must-fail/binder_as_variable.edit).
-pub fn check(file: &[u8]) -> Checked
+pub fn check(file: &[u8]) -> Result<Counts, Refusal>
     ensures { told result ≡ answer file.now }
 {
-    if file.len() < 4 {
-        return Checked::Refused(Refusal::Short);
+    let parts = Parts::read(file)?;
+    let n = parts.len();
+    if n < SMALL {
+        return check_parts::<SMALL>(parts);
     }
-    let f = word_at(file, 0);
-    let n = word_at(file, 2);
-    if f > MAX_FREE {
-        return Checked::Refused(Refusal::Limits);
+    if n < MIDDLE {
+        return check_parts::<MIDDLE>(parts);
     }
-    if n < 1 {
-        return Checked::Refused(Refusal::Limits);
-    }
-    if n > MAX_NODES {
-        return Checked::Refused(Refusal::Limits);
-    }
-    // In 32 bits: no product here is wider than that, except by a power of two (02, request 4).
-    if file.len() != (4 + 3 * (n as u32)) as usize {
-        return Checked::Refused(Refusal::Length);
-    }
-    if n <= SMALL {
-        let mut ends = [0u16; SMALL + 1];
-        return check_nodes(file, n, f, &mut ends);
-    }
-    if n <= MIDDLE {
-        let mut ends = [0u16; MIDDLE + 1];
-        return check_nodes(file, n, f, &mut ends);
-    }
-    let mut ends = [0u16; MAX_NODES + 1];
-    check_nodes(file, n, f, &mut ends)
-}
-
-// The answer for a file that has passed the first three tests, with f free names and n nodes: one
-// pass over the nodes tells whether it passes the others, and only where it does not are these made
-// one by one. `ends` is for its own use, whatever it holds.
-fn check_nodes(file: &[u8], n: usize, f: usize, ends: &mut [u16]) -> Checked
-    requires headed { Headed file.now n f }
-    requires n_in_bounds { n < length ends.old }
-    ensures { told result ≡ answer file.now }
-{
-    let Tested::Passed(seen) = test_nodes(file, n, f, ends) else {
-        return Checked::Refused(first_refusal(file, n, f, ends));
-    };
-    Checked::Accepted(counted(n, f, seen))
-}
-
-// The refusal of a file that has passed the first three tests and is known not to pass all others: the
-// first of them that it does not pass, and the last where it passes those before. `sizes` is for its
-// own use.
-fn first_refusal(file: &[u8], n: usize, f: usize, sizes: &mut [u16]) -> Refusal
-    requires headed { Headed file.now n f }
-    requires n_in_bounds { n ≤ length sizes.old }
-    requires file_value { tested f (code_of file.now) ≡ Failed }
-    ensures { refusal file.now ≡ some (number result) }
-{
-    if !tags_known(file, n) {
-        return Refusal::Tag;
-    }
-    if !is_term(file, n, sizes) {
-        return Refusal::Shape;
-    }
-    if !in_order(file, n, f) {
-        return Refusal::Binder;
-    }
-    Refusal::Variable
-}
-
-// The counts of a term of n nodes with f free names and `seen` abstractions: of the other nodes, one
-// more is a variable than is an application.
-fn counted(n: usize, f: usize, seen: usize) -> Counts
-    requires n_le_max_nodes { n ≤ max_nodes }
-    requires seen_lt_n { seen < n }
-    ensures { result ≡ counts_from f n seen }
-{
-    let variables = (n - seen + 1) / 2;
-    Counts {
-        free: f,
-        nodes: n,
-        abstractions: seen,
-        variables: variables,
-        applications: variables - 1,
-    }
+    check_parts::<LARGE>(parts)
 }

@@ -4,59 +4,46 @@
 ghost use Rattle.std.specs.Prelude.{◌≡◌, ◌≤◌, true, List, length};
 ghost use Rattle.termfile.specs.Code.{Code};
 ghost use Rattle.termfile.specs.Nodes.{read_node};
-ghost use Rattle.termfile.specs.File.{code_of, holds};
-ghost use Rattle.termfile.specs.Passes.{Framed, sizes_of, joined};
+ghost use Rattle.termfile.specs.File.{holds};
+ghost use Rattle.termfile.specs.Passes.{code_in, sizes_of, joined};
 
-use crate::layout::{argument_of, tag_of};
+use crate::parts::Parts;
 
-// What a node makes of the codes behind it: a code of a size, or none.
-#[derive(Clone, Copy)]
-pub enum Joined {
-    Size(usize),
-    Broken,
-}
-
-// What a node with this tag and argument makes of the codes behind it. `behind` has their sizes and
-// those of their subterms, in prefix order, so the second code's size stands where the first ends.
-fn join(tag: u8, argument: usize, behind: &[u16]) -> Joined
+// The size of the code that a node with this tag and argument makes of the codes behind it, if it makes
+// one. `behind` has their sizes and those of their subterms, in prefix order, so the second code's size
+// stands where the first ends.
+fn join(tag: u8, argument: usize, behind: &[u16]) -> Option<usize>
     ensures { (cs : List Code) → behind.now ≡ sizes_of cs → result ≡ joined (read_node tag argument cs) }
 {
+    // The file's byte is matched as it stands: an enum of the three kinds is one more match at each node.
     match tag {
-        0 => Joined::Size(1),
+        0 => Some(1),
         1 => {
-            if behind.len() == 0 {
-                return Joined::Broken;
-            }
-            Joined::Size(1 + behind[0] as usize)
+            let body = *behind.first()? as usize;
+            Some(1 + body)
         }
         2 => {
-            if behind.len() <= argument {
-                return Joined::Broken;
-            }
+            let right = *behind.get(argument)? as usize;
             if behind[0] as usize != argument {
-                return Joined::Broken;
+                return None;
             }
-            Joined::Size(1 + argument + behind[argument] as usize)
+            Some(1 + argument + right)
         }
-        _ => Joined::Broken,
+        _ => None,
     }
 }
 
 // Whether the nodes are one whole term: whether the code that starts at node 0 has all n nodes.
 // `sizes` is for its own use.
-pub fn is_term(file: &[u8], n: usize, sizes: &mut [u16]) -> bool
-    requires framed { Framed file.now n }
-    requires n_in_bounds { n ≤ length sizes.old }
-    ensures { result ≡ holds (λ c. true) (code_of file.now) }
+pub fn is_term(parts: Parts, sizes: &mut [u16]) -> bool
+    requires { length parts.tags.now ≤ length sizes.old }
+    ensures { result ≡ holds (λ c. true) (code_in parts.entry) }
 {
     // The nodes from i on are codes one after the other, and their sizes are stored.
-    let mut i = n;
-    while i > 0 {
-        let next = i;
-        i -= 1;
-        let tag = tag_of(file, n, i);
-        let argument = argument_of(file, n, i);
-        let Joined::Size(size) = join(tag, argument, &sizes[next..n]) else {
+    let n = parts.len();
+    for i in (0..n).rev() {
+        let behind = &sizes[i + 1..n];
+        let Some(size) = join(parts.tags[i], parts.argument(i), behind) else {
             return false;
         };
         sizes[i] = size as u16;

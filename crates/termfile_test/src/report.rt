@@ -1,6 +1,6 @@
 // A line for each file checked: its name and the answer.
 use std::io;
-use termfile::{Checked, Counts};
+use termfile::Counts;
 
 // Checks the first `length` bytes as a file and writes the line.
 pub fn line(out: &impl Print, name: &[u8], bytes: &[u8], length: usize) -> io::Result<()> {
@@ -13,8 +13,8 @@ pub fn line(out: &impl Print, name: &[u8], bytes: &[u8], length: usize) -> io::R
 
 fn answer(out: &impl Print, file: &[u8]) -> io::Result<()> {
     match termfile::check(file) {
-        Checked::Accepted(counts) => write_counts(out, counts)?,
-        Checked::Refused(refusal) => write_number(out, ": refused ", termfile::number(refusal))?,
+        Ok(counts) => write_counts(out, counts)?,
+        Err(refusal) => write_number(out, ": refused ", refusal.number())?,
     }
     out.print("\n")
 }

@@ -49,7 +49,7 @@ pub const STACK_FOR_A_CALL: usize = 106_496;
 pub const STACK_FOR_A_RESULT: usize = 69_632;
 
 /// Bytes of stack that each further level of writing takes. One of counting takes fewer.
-pub const STACK_FOR_A_LEVEL: usize = 224;
+pub const STACK_FOR_A_LEVEL: usize = 192;
 
 /// The most that any stores make an evaluation take, with a prelude or without.
 pub const MOST_STACK_NEEDED: usize = stack_needed(super::MOST_COUNTED, super::MOST_COUNTED);

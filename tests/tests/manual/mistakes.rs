@@ -80,8 +80,8 @@ fn mistakes_are_found_out() {
     found_out(constants, "106,496 |", "106,497 |");
     found_out(constants, "172,032 |", "170,232 |");
     found_out(constants, "`GLOW_MOST_EXPORTED` |", "`GLOW_MOST_IMPORTED` |");
-    found_out(sentences, "987,136", "987,137");
-    found_out(sentences, "224 · (N / 4) bytes", "224 · (N / 2) bytes");
+    found_out(sentences, "856,064", "856,065");
+    found_out(sentences, "192 · (N / 4) bytes", "192 · (N / 2) bytes");
     found_out(sentences, "| name store | 32,768 |", "| name store | 16,384 |");
     found_out(sentences, "fewer than 2 elements the status is 4", "fewer than 3 elements the status is 4");
     found_out(arrays, "`owns`, `nexts` |", "`nexts`, `owns` |");
