@@ -2,7 +2,7 @@
 //! 64 bits, has no product with a result of 64 bits, and names no function that works one out.
 #![cfg(feature = "library")]
 use glow_tests::process::root;
-use std::collections::BTreeMap;
+use std::collections::{BTreeMap, BTreeSet};
 use std::path::{Path, PathBuf};
 use std::process::Command;
 
@@ -75,9 +75,10 @@ fn multiplied(line: &str) -> Option<Product> {
 /// The library's own functions have a path as their name.
 fn is_helper(symbol: &str) -> bool { !symbol.contains("::") && symbol.to_ascii_lowercase().contains("mul") }
 
-/// Object code as objdump shows it: the lines of each function, relocations among them, and the names of all symbols.
+/// Object code as objdump shows it: the lines of each function, relocations among them, the names of all symbols, and of those that one of
+/// its files names and does not have.
 #[derive(Default)]
-struct Code { functions: BTreeMap<String, Vec<String>>, symbols: Vec<String> }
+struct Code { functions: BTreeMap<String, Vec<String>>, symbols: Vec<String>, outside: BTreeSet<String> }
 
 impl Code {
     fn of(path: &Path) -> Code {
@@ -105,7 +106,11 @@ impl Code {
             }
             // a symbol begins with its 16 digits and ends with its name; `df` is the name of a file
             let symbol = line.split_once(' ').is_some_and(|(at, _)| at.len() == 16 && hex(at)) && !line.contains(" df ");
-            if symbol { code.symbols.extend(line.split_whitespace().last().map(String::from)); }
+            if symbol {
+                let name = line.split_whitespace().last().map(String::from);
+                if line.contains(" *UND*") { code.outside.extend(name.clone()); }
+                code.symbols.extend(name);
+            }
         }
         code
     }
@@ -153,6 +158,15 @@ fn look(name: &str, functions: &[&str]) -> (Code, usize) {
 fn the_library() {
     let (code, narrow) = look("libglow.a", &["glow_evaluate", "glow_import", "glow_export"]);
     assert!(code.instructions() > 1000 && narrow > 0, "{} instructions, {narrow} products", code.instructions());
+}
+
+/// Of functions outside it the library calls `memset` alone, and the products call none.
+#[test]
+fn outside_the_library() {
+    assert_eq!(archive("libglow.a").outside.iter().collect::<Vec<_>>(), ["memset"]);
+    assert!(archive("libproduct_test.a").outside.is_empty());
+    let code = compiled("outside", "void *memcpy(void *, const void *, __SIZE_TYPE__); void copies(void *a, void *b, u64 n) { memcpy(a, b, n); }");
+    assert_eq!(code.outside.iter().collect::<Vec<_>>(), ["memcpy"]);
 }
 
 /// Four products at least of 16-bit pieces make one of 32-bit numbers.

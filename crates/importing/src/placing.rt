@@ -45,7 +45,8 @@ impl<const N: usize> Scratch<N> {
     // Puts an abstraction; what follows is its body.
     pub fn put_abstraction(&mut self, spot: Spot) -> Spot
         requires { Ready spot N }
-        ensures { (f : ℕ) (p : Place) → Before f p spot self.old → Before f (body p) result self.new }
+        ensures put { (f : ℕ) (p : Place) → Before f p spot self.old → Before f (body p) result self.new }
+        ensures kept { self.new.apps ≡ self.old.apps }
     {
         let at = spot.nodes;
         let name = spot.name as u16;
@@ -63,7 +64,8 @@ impl<const N: usize> Scratch<N> {
     // Puts an application; what follows is its left part.
     pub fn put_application(&mut self, spot: Spot) -> Spot
         requires { Ready spot N }
-        ensures { (f : ℕ) (p : Place) → Before f p spot self.old → Before f (left p) result self.new }
+        ensures put { (f : ℕ) (p : Place) → Before f p spot self.old → Before f (left p) result self.new }
+        ensures kept { self.new.names ≡ self.old.names }
     {
         let at = spot.nodes;
         self.tags[at] = 2;
@@ -81,8 +83,9 @@ impl<const N: usize> Scratch<N> {
     pub fn put_variable(&mut self, spot: Spot, k: usize) -> Spot
         requires ready { Ready spot N }
         requires few_indices { k < spot.depth + 32768 }
-        ensures { (f : ℕ) (p : Place) → Before f p spot self.old
+        ensures put { (f : ℕ) (p : Place) → Before f p spot self.old
             → After f p (variable spot.depth k) result self.new }
+        ensures kept { (self.new.names ≡ self.old.names) × (self.new.apps ≡ self.old.apps) }
     {
         let at = spot.nodes;
         self.tags[at] = 0;
@@ -99,8 +102,9 @@ impl<const N: usize> Scratch<N> {
     // what follows is the right part.
     pub fn close_left(&mut self, spot: Spot) -> Spot
         requires { Closable spot self.old }
-        ensures { (f : ℕ) (p q : Place) (t : Term) → ended p t ≡ part q → After f p t spot self.old
+        ensures closed { (f : ℕ) (p q : Place) (t : Term) → ended p t ≡ part q → After f p t spot self.old
             → Before f q result self.new }
+        ensures kept { (self.new.tags ≡ self.old.tags) × (self.new.names ≡ self.old.names) × (self.new.apps ≡ self.old.apps) }
     {
         let pending = spot.pending - 1;
         let app = self.apps[pending] as usize;

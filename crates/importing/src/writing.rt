@@ -18,6 +18,22 @@ fn write_words(out: &mut [u8], at: usize, words: &[u16])
     }
 }
 
+// Writes the tags and the arguments. At each turn those of the first i nodes are written. One loop for both: of either alone the compiler
+// makes a call of `memcpy`, and of functions outside it the library calls `memset` alone.
+fn write_nodes(out: &mut [u8], tags: &[u8], args: &[u16])
+    requires same_length { length tags.now ≡ length args.now }
+    requires in_bounds { 4 + 3 * length tags.now ≤ length out.old }
+    ensures { out.new ≡ sets (sets out.old 4 tags.now) (4 + length tags.now) (words_bytes args.now) }
+{
+    let n = tags.len();
+    for i in 0..n {
+        let argument = args[i];
+        out[4 + i] = tags[i];
+        out[4 + n + 2 * i] = (argument % 256) as u8;
+        out[4 + n + 2 * i + 1] = (argument / 256) as u8;
+    }
+}
+
 // Writes a whole file: the counts of free names and of nodes, then the tags, then the arguments.
 pub fn write_file(out: &mut [u8], f: usize, tags: &[u8], args: &[u16])
     requires few_free { f ≤ max_free }
@@ -26,9 +42,6 @@ pub fn write_file(out: &mut [u8], f: usize, tags: &[u8], args: &[u16])
     requires in_bounds { 4 + 3 * length tags.now ≤ length out.old }
     ensures { out.new ≡ overlay (file_bytes f tags.now args.now) out.old }
 {
-    let n = tags.len();
-    write_words(out, 0, &[f as u16, n as u16]);
-    let end = 4 + n;
-    out[4..end].copy_from_slice(tags);
-    write_words(out, end, args);
+    write_words(out, 0, &[f as u16, tags.len() as u16]);
+    write_nodes(out, tags, args);
 }

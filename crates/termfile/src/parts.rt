@@ -28,15 +28,16 @@ pub struct Parts<'a> {
 }
 
 impl<'a> Parts<'a> {
-    ghost use Rattle.std.specs.Prelude.{◌≡◌, ◌<◌, length, get_or, MatchResult};
+    ghost use Rattle.std.specs.Prelude.{◌≡◌, ◌<◌, length, get_or, MatchResult, IfOk};
     ghost use Rattle.std.proofs.Math.Option.{some};
     ghost use Rattle.termfile.specs.Answer.{answer, number};
-    ghost use Rattle.termfile.specs.File.{words, refusal};
+    ghost use Rattle.termfile.specs.File.{words, free_names, tags, arguments, refusal};
     ghost use Rattle.termfile.specs.Passes.{answer_in};
 
     // The parts of a file, or the first of the refusals 1 to 3 that it meets.
     pub fn read(file: &'a [u8]) -> Result<Parts<'a>, Refusal>
-        ensures { MatchResult result (λ parts. answer_in parts ≡ answer file.now) (λ why. refusal file.now ≡ some (number why)) }
+        ensures answer { MatchResult result (λ parts. answer_in parts ≡ answer file.now) (λ why. refusal file.now ≡ some (number why)) }
+        ensures parts { IfOk result (λ parts. (parts.free ≡ free_names file.now) × (parts.tags.now ≡ tags file.now) × (words parts.arguments.now ≡ arguments file.now)) }
     {
         if file.len() < 4 {
             return Err(Refusal::Short);

@@ -64,7 +64,7 @@ pub returns-then-spot-eq0 : goal.returns-then-spot-eq0
 returns-then-spot-eq0 g c =
     let t = c.loop-spot.invariant in
     let w = node-known t c.read_node.ensures c.in_ok-node.ensures.ok_part c.in-Variable.is in
-    let put = c.put_variable-spot.ensures _ t.place t.holds in
+    let put = c.put_variable-spot.ensures.put _ t.place t.holds in
     let ready = turn-ready t c.in_ok-node.next (omega arith) w.shorter c.requires.roomy in
     variable-last t c.loop-spot-test.true c.if-k-spot.false w put c.if-spot-eq0.true ready.fits
 
@@ -73,7 +73,7 @@ close_left-spot-requires g c =
     let t = c.loop-spot.invariant in
     let w = node-known t c.read_node.ensures c.in_ok-node.ensures.ok_part c.in-Variable.is in
     let less = c.loop-spot-test.true in
-    let put = c.put_variable-spot.ensures _ t.place t.holds in
+    let put = c.put_variable-spot.ensures.put _ t.place t.holds in
     let ready = turn-ready t c.in_ok-node.next less w.shorter c.requires.roomy in
     let z = part-closable t less c.if-k-spot.false w put (variable-part t less c.if-k-spot.false w put c.if-spot-eq0.false) ready.fits in (search rules, z)
 
@@ -81,13 +81,13 @@ pub loop-spot-preserved-in-Abstraction : goal.loop-spot-preserved-in-Abstraction
 loop-spot-preserved-in-Abstraction g c =
     let t = c.loop-spot.invariant in
     let w = node-known t c.read_node.ensures c.in_ok-node.ensures.ok_part c.in-Abstraction.is in
-    turn-abstraction t c.loop-spot-test.true w (c.put_abstraction-spot.ensures _ t.place t.holds)
+    turn-abstraction t c.loop-spot-test.true w (c.put_abstraction-spot.ensures.put _ t.place t.holds)
 
 pub loop-spot-preserved-in-Application : goal.loop-spot-preserved-in-Application
 loop-spot-preserved-in-Application g c =
     let t = c.loop-spot.invariant in
     let w = node-known t c.read_node.ensures c.in_ok-node.ensures.ok_part c.in-Application.is in
-    turn-application t c.loop-spot-test.true w (c.put_application-spot.ensures _ t.place t.holds)
+    turn-application t c.loop-spot-test.true w (c.put_application-spot.ensures.put _ t.place t.holds)
 
 pub loop-spot-preserved : goal.loop-spot-preserved
 loop-spot-preserved g c =
@@ -95,9 +95,9 @@ loop-spot-preserved g c =
     let w = node-known t c.read_node.ensures c.in_ok-node.ensures.ok_part c.in-Variable.is in
     let less = c.loop-spot-test.true in
     let near = c.if-k-spot.false in
-    let put = c.put_variable-spot.ensures _ t.place t.holds in
+    let put = c.put_variable-spot.ensures.put _ t.place t.holds in
     let o = variable-part t less near w put c.if-spot-eq0.false in
-    turn-part t less near w put o (c.close_left-spot.ensures _ t.place o.next _ o.ends put)
+    turn-part t less near w put o (c.close_left-spot.ensures.closed _ t.place o.next _ o.ends put)
 
 -- a node beyond the last
 pub returns-in_err-ok_or : goal.returns-in_err-ok_or

@@ -6,21 +6,21 @@ use Rattle.termfile.proofs.Refusals.{long-enough, not-long-enough, in-limits, no
 use Rattle.termfile.proofs.Outcome.{framed-answer}
 use Rattle.termfile.proofs.parts.Parts.read.Goals as goal
 
-pub returns-then-file-lt4 : goal.returns-then-file-lt4
-returns-then-file-lt4 c = let s = c.args.file.now in refused-short s (not-long-enough s (omega arith))
+pub returns-then-file-lt4-clause-answer : goal.returns-then-file-lt4-clause-answer
+returns-then-file-lt4-clause-answer c = let s = c.args.file.now in refused-short s (not-long-enough s (omega arith))
 
-pub returns-then-free-gt-MAX_FREE : goal.returns-then-free-gt-MAX_FREE
-returns-then-free-gt-MAX_FREE c =
+pub returns-then-free-gt-MAX_FREE-clause-answer : goal.returns-then-free-gt-MAX_FREE-clause-answer
+returns-then-free-gt-MAX_FREE-clause-answer c =
     let s = c.args.file.now in
     refused-limits s (long-enough s (omega arith)) (not-in-limits s (λ few least most. grind (arith, c.then-free-gt-MAX_FREE.either)))
 
-pub returns-then-file-file_length : goal.returns-then-file-file_length
-returns-then-file-file_length c =
+pub returns-then-file-file_length-clause-answer : goal.returns-then-file-file_length-clause-answer
+returns-then-file-file_length-clause-answer c =
     let s = c.args.file.now in
     refused-length s (long-enough s (omega arith)) (in-limits s (omega arith) (omega arith) (omega arith)) (not-exact-length s (λ e. omega arith))
 
-pub returns : goal.returns
-returns c =
+pub returns-clause-answer : goal.returns-clause-answer
+returns-clause-answer c =
     let s = c.args.file.now in
     let n = c.word_at-n.result in
     let framed : Framed s n = record { count = c.word_at-n.ensures.value; long = omega arith; least = omega arith; most = omega arith } in
